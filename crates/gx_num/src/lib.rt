@@ -1,0 +1,12 @@
+//! Whole numbers, vectors, points and rays: the base of all geometry here.
+#![tactic(auto)]
+
+mod memory;
+mod number;
+mod ray;
+mod vector;
+
+pub use memory::NoMemory;
+pub use number::{cmp_products, gcd, sign};
+pub use ray::Ray;
+pub use vector::{M, V3};
