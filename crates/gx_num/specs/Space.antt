@@ -1,5 +1,5 @@
 -- Points of space, the inequalities that bound a solid, and the points of a ray.
-use Rattle.std.specs.Prelude.{ℕ, ℤ, Bool, List, ◌+ℤ◌, ◌*ℤ◌, pos, int_lt, int_le}
+use Rattle.std.specs.Prelude.{◌≡◌, ℕ, ℤ, Bool, List, ◌+ℤ◌, ◌*ℤ◌, pos, int_lt, int_le}
 use Rattle.std.specs.List.{list_all}
 use Rattle.gx_num.specs.declared.vector.V3.{V3}
 use Rattle.gx_num.specs.declared.ray.Ray.{Ray}
@@ -28,11 +28,20 @@ is_in solid p = list_all (λ h. int_le (height h p) (h.e *ℤ p.w)) solid
 abbrev pub is_inside : List HalfSpace → Vec4 → Bool
 is_inside solid p = list_all (λ h. int_lt (height h p) (h.e *ℤ p.w)) solid
 
--- the point o + t*d of a ray, for t = p/q
-abbrev pub point_of_ray : Ray → ℕ → ℕ → Vec4
-point_of_ray ray p q = record {
-  x = pos q *ℤ ray.o.x +ℤ pos p *ℤ ray.d.x;
-  y = pos q *ℤ ray.o.y +ℤ pos p *ℤ ray.d.y;
-  z = pos q *ℤ ray.o.z +ℤ pos p *ℤ ray.d.z;
-  w = pos q;
+-- A parameter t = num/den of a ray, a fraction that isn't negative; den is above 0.
+pub record Parameter : Type 0 where
+  pub num : ℕ
+  pub den : ℕ
+
+-- the point o + t*d of a ray: (den*o + num*d, den)
+abbrev pub point_of_ray : Ray → Parameter → Vec4
+point_of_ray ray t = record {
+  x = pos t.den *ℤ ray.o.x +ℤ pos t.num *ℤ ray.d.x;
+  y = pos t.den *ℤ ray.o.y +ℤ pos t.num *ℤ ray.d.y;
+  z = pos t.den *ℤ ray.o.z +ℤ pos t.num *ℤ ray.d.z;
+  w = pos t.den;
 }
+
+-- the direction isn't zero
+abbrev pub HasDirection : Ray → Type 0
+HasDirection ray = ray.d.x ≡ pos 0 → ray.d.y ≡ pos 0 → ray.d.z ≡ pos 0 → ⊥

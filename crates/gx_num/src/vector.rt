@@ -1,4 +1,4 @@
-ghost use Rattle.std.specs.Prelude.{◌≡◌, ◌^◌};
+ghost use Rattle.std.specs.Prelude.{◌≡◌, ◌^◌, ◌+◌, ◌≤◌, unsigned_abs};
 
 /// The greatest magnitude of a coordinate in steps: of solids, offsets, and ray origins and directions.
 pub const M: i64 = 262144;
@@ -53,7 +53,8 @@ impl V3 {
     pub fn dot(self, o: V3) -> i128
         requires first { IsWithin (2 ^ 61) self }
         requires second { IsWithin (2 ^ 61) o }
-        ensures { result ≡ dot_of self o }
+        ensures value { result ≡ dot_of self o }
+        ensures bound { unsigned_abs result ≤ 2 ^ 124 }
     {
         plus(
             plus(times(self.x, o.x), times(self.y, o.y)),
@@ -75,7 +76,7 @@ impl V3 {
     }
 }
 
-ghost use Rattle.std.specs.Prelude.{◌≤◌, ◌*◌, ◌*ℤ◌, ◌+ℤ◌, ◌-ℤ◌, unsigned_abs};
+ghost use Rattle.std.specs.Prelude.{◌*ℤ◌, ◌+ℤ◌, ◌-ℤ◌};
 
 // One operation a function: so each proves by itself.
 fn times(a: i64, b: i64) -> i128
@@ -90,7 +91,8 @@ fn times(a: i64, b: i64) -> i128
 fn plus(a: i128, b: i128) -> i128
     requires first { unsigned_abs a ≤ 2 ^ 124 }
     requires second { unsigned_abs b ≤ 2 ^ 124 }
-    ensures { result ≡ a +ℤ b }
+    ensures value { result ≡ a +ℤ b }
+    ensures bound { unsigned_abs result ≤ unsigned_abs a + unsigned_abs b }
 {
     a + b
 }

@@ -1,0 +1,9 @@
+-- The fractions that values have.
+use Rattle.std.specs.Prelude.{◌≤◌, ◌^◌, unsigned_abs}
+use Rattle.gx_fraction.specs.Fraction.{Fraction, IsLowest}
+
+-- in lowest terms, with the numerator's magnitude and the denominator at most 2^62
+pub record IsKept (f : Fraction) : Type 0 where
+  pub lowest : IsLowest f
+  pub num : unsigned_abs f.num ≤ 2 ^ 62
+  pub den : f.den ≤ 2 ^ 62

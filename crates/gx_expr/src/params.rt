@@ -1,0 +1,66 @@
+ghost use Rattle.std.specs.Prelude.{◌≡◌, [], ◌↔◌, IsTrue};
+ghost use Rattle.gx_expr.specs.Param.{IsSame};
+
+use crate::{ParamFault, Value};
+use indexmap::IndexMap;
+use std::alloc::Global;
+use std::marker::Model;
+
+/// The parameters that are defined. Contracts see their names and values in the order of definition.
+#[derive(Drop)]
+pub struct Params {
+    alloc: Global,
+    values: IndexMap<Vec<u8>, Value>,
+}
+
+impl Model for Params {
+    ghost use Rattle.std.specs.Prelude.{List, map};
+    ghost use Rattle.gx_expr.specs.Param.{Param};
+
+    ghost Value = { List Param };
+
+    ghost view = { λ p. map (λ e. record { name = e.0.items; value = e.1 }) p.values.entries };
+}
+
+impl Params {
+    ghost use Rattle.gx_expr.specs.Param.{value_of, Defines};
+
+    /// No parameters. Takes no memory.
+    pub fn new(alloc: Global) -> Params
+        ensures { result ≡ [] }
+    {
+        Params {
+            alloc,
+            values: IndexMap::new(alloc),
+        }
+    }
+
+    /// Gives the name a value; the value that it has may be given again. `Twice` where it has another one. An error
+    /// changes nothing.
+    pub fn define(&mut self, name: &[u8], value: Value) -> Result<(), ParamFault>
+        ensures { Defines self.old name.now value self.new result }
+    {
+        if let Some(before) = self.get(name) {
+            if !same(&before, &value) {
+                return Err(ParamFault::Twice);
+            }
+            return Ok(());
+        }
+        let name = Vec::from_slice(self.alloc, name)?;
+        self.values.insert(name, value)?;
+        Ok(())
+    }
+
+    /// The value of a name: None where it was given none.
+    pub fn get(&self, name: &[u8]) -> Option<Value>
+        ensures { result ≡ value_of self.now name.now }
+    {
+        self.values.get(name).copied()
+    }
+}
+
+fn same(a: &Value, b: &Value) -> bool
+    ensures { IsTrue result ↔ IsSame a.now b.now }
+{
+    a == b
+}

@@ -1,0 +1,166 @@
+ghost use Rattle.std.specs.Prelude.{◌≡◌, ◌<◌, ◌≤◌, ◌^◌, ◌≢◌, pos, unsigned_abs, ◌+ℤ◌, ◌-ℤ◌, ◌*ℤ◌};
+ghost use Rattle.gx_expr.specs.Kept.{IsKept};
+
+use crate::ValueFault;
+use crate::product::times;
+use gx_fraction::Frac;
+
+/// What an expression is worth: a fraction, with a mark where it is a length and one where it is an angle. A length
+/// is in millimetres, an angle in degrees.
+#[derive(Clone, Copy, Debug, PartialEq, Eq)]
+pub struct Value {
+    number: Frac,
+    length: bool,
+    angle: bool,
+    pub ghost kept: { IsKept number },
+}
+
+// The greatest numerator and denominator, 2^62.
+const WIDEST: u128 = 4611686018427387904;
+
+impl Value {
+    ghost use Rattle.gx_expr.specs.Value.{IsReduced, Answers, Combines, IsSum, IsDifference, IsProduct, IsQuotient, IsOpposite};
+
+    /// num/den with these marks. `DivideByZero` where `den` is 0, else `TooWide` where in lowest terms the numerator's
+    /// magnitude or the denominator is above 2^62.
+    pub fn new(num: i128, den: i128, length: bool, angle: bool) -> Result<Value, ValueFault>
+        requires num { unsigned_abs num < 2 ^ 126 }
+        requires den { unsigned_abs den < 2 ^ 126 }
+        ensures { Answers num den length angle result }
+    {
+        if den == 0 {
+            return Err(ValueFault::DivideByZero);
+        }
+        let number = Value::reduced(num, den);
+        if number.num().unsigned_abs() > WIDEST {
+            return Err(ValueFault::TooWide);
+        }
+        if number.den().unsigned_abs() > WIDEST {
+            return Err(ValueFault::TooWide);
+        }
+        Ok(Value {
+            number,
+            length,
+            angle,
+        })
+    }
+
+    // num/den in lowest terms, with the sign above.
+    fn reduced(num: i128, den: i128) -> Frac
+        requires divisor { den ≢ pos 0 }
+        requires num { unsigned_abs num < 2 ^ 126 }
+        requires den { unsigned_abs den < 2 ^ 126 }
+        ensures { IsReduced num den result }
+    {
+        if den < 0 {
+            Frac::new(-num, -den)
+        } else {
+            Frac::new(num, den)
+        }
+    }
+
+    /// The fraction, without the marks.
+    pub fn number(&self) -> Frac
+        ensures { result ≡ self.now.number }
+    {
+        self.number
+    }
+
+    /// The numerator, with the sign.
+    pub fn num(&self) -> i128
+        ensures { result ≡ self.now.number.num }
+    {
+        self.number.num()
+    }
+
+    /// The denominator, above 0.
+    pub fn den(&self) -> i128
+        ensures { result ≡ pos self.now.number.den }
+    {
+        self.number.den()
+    }
+
+    /// Whether it is a length.
+    pub fn length(&self) -> bool
+        ensures { result ≡ self.now.length }
+    {
+        self.length
+    }
+
+    /// Whether it is an angle.
+    pub fn angle(&self) -> bool
+        ensures { result ≡ self.now.angle }
+    {
+        self.angle
+    }
+
+    /// The sum, or `TooWide`.
+    pub fn add(&self, o: &Value) -> Result<Value, ValueFault>
+        ensures { IsSum self.now o.now result }
+    {
+        let num = self.across(o) + o.across(self);
+        self.combined(o, num, self.whole(o))
+    }
+
+    /// The difference, or `TooWide`.
+    pub fn sub(&self, o: &Value) -> Result<Value, ValueFault>
+        ensures { IsDifference self.now o.now result }
+    {
+        let num = self.across(o) - o.across(self);
+        self.combined(o, num, self.whole(o))
+    }
+
+    /// The product, or `TooWide`.
+    pub fn mul(&self, o: &Value) -> Result<Value, ValueFault>
+        ensures { IsProduct self.now o.now result }
+    {
+        self.combined(o, self.top(o), self.whole(o))
+    }
+
+    /// The quotient. `DivideByZero` where `o` is 0, else it may be `TooWide`.
+    pub fn div(&self, o: &Value) -> Result<Value, ValueFault>
+        ensures { IsQuotient self.now o.now result }
+    {
+        self.combined(o, self.across(o), o.across(self))
+    }
+
+    /// The opposite, which is as wide as the value.
+    pub fn neg(&self) -> Result<Value, ValueFault>
+        ensures { IsOpposite self.now result }
+    {
+        Value::new(-self.num(), self.den(), self.length, self.angle)
+    }
+
+    // num/den with a mark where one of the two has it.
+    fn combined(&self, o: &Value, num: i128, den: i128) -> Result<Value, ValueFault>
+        requires num { unsigned_abs num < 2 ^ 126 }
+        requires den { unsigned_abs den < 2 ^ 126 }
+        ensures { Combines num den self.now o.now result }
+    {
+        Value::new(num, den, self.length | o.length, self.angle | o.angle)
+    }
+
+    // The numerator times the denominator of the other.
+    fn across(&self, o: &Value) -> i128
+        ensures value { result ≡ self.now.number.num *ℤ pos o.now.number.den }
+        ensures bound { unsigned_abs result ≤ 2 ^ 124 }
+    {
+        times(self.num(), o.den())
+    }
+
+    // The product of the numerators.
+    fn top(&self, o: &Value) -> i128
+        ensures value { result ≡ self.now.number.num *ℤ o.now.number.num }
+        ensures bound { unsigned_abs result ≤ 2 ^ 124 }
+    {
+        times(self.num(), o.num())
+    }
+
+    // The product of the denominators.
+    fn whole(&self, o: &Value) -> i128
+        ensures value { result ≡ pos self.now.number.den *ℤ pos o.now.number.den }
+        ensures bound { unsigned_abs result ≤ 2 ^ 124 }
+    {
+        times(self.den(), o.den())
+    }
+}

@@ -1,0 +1,35 @@
+-- Fractions: equality, lowest terms and order, by products crosswise (any text on arithmetic).
+use Rattle.std.specs.Prelude.{◌≡◌, ℕ, ℤ, ◌<◌, ◌^◌, ◌*ℤ◌, pos, unsigned_abs, if◌then◌else◌}
+use Rattle.std.specs.Int.{IsGcd}
+use Rattle.std.specs.Ordering.{int_cmp, is_lt, is_gt}
+use Rattle.std.specs.declared.cmp.Ordering.{Ordering}
+
+-- num/den; den is above 0
+pub record Fraction : Type 0 where
+  pub num : ℤ
+  pub den : ℕ
+
+-- a/b and c/d are one number: a*d = c*b
+abbrev pub IsEqual : Fraction → Fraction → Type 0
+IsEqual a b = a.num *ℤ pos b.den ≡ b.num *ℤ pos a.den
+
+-- the denominator is above 0, and no number above 1 divides both
+pub record IsLowest (f : Fraction) : Type 0 where
+  pub positive : 0 < f.den
+  pub coprime : IsGcd (unsigned_abs f.num) f.den 1
+
+-- a/b against c/d: a*d against c*b
+abbrev pub compare : Fraction → Fraction → Ordering
+compare a b = int_cmp (a.num *ℤ pos b.den) (b.num *ℤ pos a.den)
+
+abbrev pub greater : Fraction → Fraction → Fraction
+greater a b = if is_lt (compare a b) then b else a
+
+abbrev pub smaller : Fraction → Fraction → Fraction
+smaller a b = if is_gt (compare a b) then b else a
+
+-- what every kept fraction is
+pub record IsKept (f : Fraction) : Type 0 where
+  pub lowest : IsLowest f
+  pub num : unsigned_abs f.num < 2 ^ 126
+  pub den : f.den < 2 ^ 126

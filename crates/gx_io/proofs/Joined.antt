@@ -1,0 +1,90 @@
+-- Calls one after the other: what the callers of reads and writes need.
+use Rattle.std.proofs.Common.{◌≡◌, ℕ, ◌+◌, ◌<◌, List, [], ◌∷◌, ◌++◌, length, get_or, take, drop, Option, None, Some, Result, Ok, Err, refl, sym, ap, ◌∙◌, subst, append_assoc, append-nil, take-append-drop}
+use Rattle.std.proofs.lemmas.List.{take_more}
+use Rattle.std.proofs.lemmas.Grind.{flat_map-append}
+use Rattle.std.specs.List.{flat_map}
+use Rattle.gx_io.specs.Bytes.{with_after, with_before, AppendsBut, AppendsFront, Writes}
+
+-- two appends in a row
+pub with_after-twice : (told : Option (List ℕ)) (a b : List ℕ) → with_after (with_after told a) b ≡ with_after told (a ++ b)
+unfolding with_after
+with_after-twice None a b = refl
+with_after-twice (Some xs) a b = ap Some (append_assoc xs a b)
+
+-- nothing was appended
+pub with_after-nothing : (told : Option (List ℕ)) → with_after told [] ≡ told
+unfolding with_after
+with_after-nothing None = refl
+with_after-nothing (Some xs) = ap Some (append-nil xs)
+
+-- two reads in a row
+pub with_before-twice : (told : Option (List ℕ)) (a b : List ℕ) → with_before a (with_before b told) ≡ with_before (a ++ b) told
+unfolding with_before
+with_before-twice None a b = refl
+with_before-twice (Some xs) a b = ap Some (sym (append_assoc a b xs))
+
+-- nothing was read
+pub with_before-nothing : (told : Option (List ℕ)) → with_before [] told ≡ told
+unfolding with_before
+with_before-nothing None = refl
+with_before-nothing (Some xs) = refl
+
+-- the first write stopped
+pub front-of_first : (old new : Option (List ℕ)) (a b : List ℕ) → AppendsFront old new a → AppendsFront old new (a ++ b)
+unfolding AppendsFront AppendsBut
+front-of_first old new a b (rest, (front, parts, is)) = (rest ++ b, (front, ap (λ l. l ++ b) parts ∙ append_assoc front rest b, is))
+
+-- the first write ended, and the second stopped
+pub front-of_second : (old new : Option (List ℕ)) (a b : List ℕ) → AppendsFront (with_after old a) new b → AppendsFront old new (a ++ b)
+unfolding AppendsFront AppendsBut
+front-of_second old new a b (rest, (front, parts, is)) =
+    (rest, (a ++ front, ap (λ l. a ++ l) parts ∙ sym (append_assoc a front rest), is ∙ with_after-twice old a front))
+
+-- nothing is a front
+pub front-nothing : (old : Option (List ℕ)) (a : List ℕ) → AppendsFront old old a
+unfolding AppendsFront AppendsBut
+front-nothing old a = (a, ([], refl, sym (with_after-nothing old)))
+
+-- the first write ended, and the second is the last
+pub writes-second : {T E : Type 0} (old new : Option (List ℕ)) (a b : List ℕ) (result : Result T E)
+    → Writes (with_after old a) new b result → Writes old new (a ++ b) result
+writes-second old new a b (Ok x) h = record { all = h.all ∙ with_after-twice old a b; front = tt }
+writes-second old new a b (Err e) h = record { all = tt; front = front-of_second old new a b h.front }
+
+-- what a function that writes in turn is proved with
+pub ruleset joined = (with_after-twice, with_after-nothing, front-of_first, front-of_second, front-nothing, writes-second)
+
+-- what a function that reads in turn is proved with
+pub ruleset read_on = (with_before-twice, with_before-nothing)
+
+-- one part more
+pub parts-more : {X : Type 0} (f : X → List ℕ) (xs : List X) (i : ℕ) (d : X) → i < length xs
+    → flat_map f (take i xs) ++ f (get_or xs i d) ≡ flat_map f (take (i + 1) xs)
+parts-more f xs i d h =
+    ap (λ l. flat_map f (take i xs) ++ l) (sym (append-nil (f (get_or xs i d))))
+    ∙ sym (flat_map-append f (take i xs) (get_or xs i d ∷ []))
+    ∙ ap (flat_map f) (sym (take_more xs i d h))
+
+-- what stopped in one part stopped in them all
+pub front-part : {X : Type 0} (f : X → List ℕ) (old new : Option (List ℕ)) (xs : List X) (i : ℕ) (d : X) → i < length xs
+    → AppendsFront old new (flat_map f (take i xs) ++ f (get_or xs i d)) → AppendsFront old new (flat_map f xs)
+front-part f old new xs i d h stopped =
+    let done = flat_map f (take (i + 1) xs) in
+    let rest = flat_map f (drop (i + 1) xs) in
+    let whole : done ++ rest ≡ flat_map f xs =
+    sym (flat_map-append f (take (i + 1) xs) (drop (i + 1) xs)) ∙ ap (flat_map f) (take-append-drop (i + 1) xs) in
+    subst (AppendsFront old new) whole (front-of_first old new done rest (subst (AppendsFront old new) (parts-more f xs i d h) stopped))
+
+-- a loop that writes each element: one more is written
+pub each-more : {X : Type 0} (f : X → List ℕ) (old mid new : Option (List ℕ)) (xs : List X) (i : ℕ) (d : X) → i < length xs
+    → mid ≡ with_after old (flat_map f (take i xs)) → new ≡ with_after mid (f (get_or xs i d)) → new ≡ with_after old (flat_map f (take (i + 1) xs))
+each-more f old mid new xs i d h before after =
+    let x = f (get_or xs i d) in
+    after ∙ ap (λ t. with_after t x) before ∙ with_after-twice old (flat_map f (take i xs)) x ∙ ap (with_after old) (parts-more f xs i d h)
+
+-- such a loop stopped
+pub each-stopped : {X : Type 0} (f : X → List ℕ) (old mid new : Option (List ℕ)) (xs : List X) (i : ℕ) (d : X) → i < length xs
+    → mid ≡ with_after old (flat_map f (take i xs)) → AppendsFront mid new (f (get_or xs i d)) → AppendsFront old new (flat_map f xs)
+each-stopped f old mid new xs i d h before stopped =
+    let x = f (get_or xs i d) in
+    front-part f old new xs i d h (front-of_second old new (flat_map f (take i xs)) x (subst (λ t. AppendsFront t new x) before stopped))

@@ -1,0 +1,6 @@
+use Rattle.std.proofs.Common.{◌≡◌}
+use Rattle.gx_io.proofs.std_source.StdSourceSource.read.Given as goal
+
+-- no fault was counted
+abbrev pub invariant-loop : goal.invariant-loop
+invariant-loop g l = l.self-inside.faults ≡ l.fn.self

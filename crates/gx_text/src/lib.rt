@@ -1,0 +1,13 @@
+//! The lines and words of a text, and names.
+#![tactic(auto)]
+
+pub mod laws;
+mod line;
+mod lines;
+mod name;
+mod unended;
+mod words;
+
+pub use line::Line;
+pub use lines::{LineFault, Lines};
+pub use name::{Name, is_name};
