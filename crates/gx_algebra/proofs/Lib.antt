@@ -1,0 +1,6 @@
+pub mod Identities
+pub mod Identity
+pub mod Laws
+pub mod Order
+pub mod Ring
+pub mod Terms

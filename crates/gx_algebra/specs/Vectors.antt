@@ -1,0 +1,61 @@
+-- Vectors of three and of four whole numbers: sums, products and determinants (any text on linear algebra).
+use Rattle.std.specs.Prelude.{ℤ, ◌+ℤ◌, ◌-ℤ◌, ◌*ℤ◌, pos}
+use Rattle.gx_num.specs.declared.vector.V3.{V3}
+use Rattle.gx_num.specs.Vector.{dot_of}
+use Rattle.gx_num.specs.Space.{Vec4}
+
+-- a - b
+abbrev pub difference_of : V3 → V3 → V3
+difference_of a b = record { x = a.x -ℤ b.x; y = a.y -ℤ b.y; z = a.z -ℤ b.z }
+
+-- the vector product
+abbrev pub cross_of : V3 → V3 → V3
+cross_of a b = record {
+  x = (a.y *ℤ b.z) -ℤ (a.z *ℤ b.y);
+  y = (a.z *ℤ b.x) -ℤ (a.x *ℤ b.z);
+  z = (a.x *ℤ b.y) -ℤ (a.y *ℤ b.x);
+}
+
+-- the determinant of three vectors
+abbrev pub det3 : V3 → V3 → V3 → ℤ
+det3 a b c = dot_of a (cross_of b c)
+
+-- k times v
+abbrev pub times3 : ℤ → V3 → V3
+times3 k v = record { x = k *ℤ v.x; y = k *ℤ v.y; z = k *ℤ v.z }
+
+-- the vector 0
+abbrev pub origin : Vec4
+origin = record { x = pos 0; y = pos 0; z = pos 0; w = pos 0 }
+
+-- the scalar product
+abbrev pub dot4 : Vec4 → Vec4 → ℤ
+dot4 a b = ((a.x *ℤ b.x +ℤ a.y *ℤ b.y) +ℤ a.z *ℤ b.z) +ℤ a.w *ℤ b.w
+
+abbrev pub plus4 : Vec4 → Vec4 → Vec4
+plus4 a b = record { x = a.x +ℤ b.x; y = a.y +ℤ b.y; z = a.z +ℤ b.z; w = a.w +ℤ b.w }
+
+-- k times v
+abbrev pub times4 : ℤ → Vec4 → Vec4
+times4 k v = record { x = k *ℤ v.x; y = k *ℤ v.y; z = k *ℤ v.z; w = k *ℤ v.w }
+
+abbrev pub opposite4 : Vec4 → Vec4
+opposite4 v = record { x = pos 0 -ℤ v.x; y = pos 0 -ℤ v.y; z = pos 0 -ℤ v.z; w = pos 0 -ℤ v.w }
+
+-- the determinant of three rows of three numbers
+abbrev pub minor : ℤ → ℤ → ℤ → ℤ → ℤ → ℤ → ℤ → ℤ → ℤ → ℤ
+minor a b c d e f g h i =
+    (a *ℤ ((e *ℤ i) -ℤ (f *ℤ h)) -ℤ b *ℤ ((d *ℤ i) -ℤ (f *ℤ g))) +ℤ c *ℤ ((d *ℤ h) -ℤ (e *ℤ g))
+
+-- the signed 3 by 3 minors of three rows: the vector whose product with a fourth row is the determinant of the four
+abbrev pub minors : Vec4 → Vec4 → Vec4 → Vec4
+minors a b c = record {
+  x = minor a.y a.z a.w b.y b.z b.w c.y c.z c.w;
+  y = pos 0 -ℤ minor a.x a.z a.w b.x b.z b.w c.x c.z c.w;
+  z = minor a.x a.y a.w b.x b.y b.w c.x c.y c.w;
+  w = pos 0 -ℤ minor a.x a.y a.z b.x b.y b.z c.x c.y c.z;
+}
+
+-- the determinant of four rows
+abbrev pub det4 : Vec4 → Vec4 → Vec4 → Vec4 → ℤ
+det4 a b c d = dot4 a (minors b c d)

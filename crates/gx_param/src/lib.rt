@@ -1,0 +1,6 @@
+//! Copies in a row, or in rows of a plane, at given steps.
+#![tactic(auto)]
+
+mod param;
+
+pub use param::{linear_at, reaches, square_at};

@@ -1,0 +1,5 @@
+use Rattle.gx_plane.proofs.Tilts.{tilted}
+use Rattle.gx_plane.proofs.laws.tilting.Goals as goal
+
+pub returns : goal.returns
+returns c = tilted

@@ -1,0 +1,193 @@
+ghost use Rattle.std.specs.Prelude.{◌≡◌, ◌↔◌, ◌<◌, ◌≤◌, ◌*◌, ◌<ℤ◌, ◌-ℤ◌, pos, IsTrue, unsigned_abs, int_div, All};
+ghost use Rattle.gx_num.specs.Vector.{IsWithin, dot_of};
+ghost use Rattle.gx_algebra.specs.Vectors.{difference_of};
+ghost use Rattle.gx_plane.specs.Plane.{reach, normal_reach, level_reach, divisor_of, primitive, IsPrimitive, side_of, Supports, turned, normal_of, plane_through, unit_along, plane_along};
+
+use gx_num::{V3, gcd};
+use std::marker::Model;
+
+/// A plane: the points p with n . p = e. The normal is not zero, and its components have no common divisor above 1.
+#[derive(Clone, Copy, Debug, PartialEq, Eq)]
+pub struct Plane {
+    n: V3,
+    e: i128,
+}
+
+impl Model for Plane {
+    ghost use Rattle.gx_num.specs.Space.{HalfSpace};
+    ghost use Rattle.gx_plane.specs.Plane.{IsPlane};
+
+    ghost Value = { HalfSpace };
+
+    ghost view = { λ p. record { n = p.n; e = p.e } };
+
+    ghost invariant = { λ p. IsPlane (record { n = p.n; e = p.e }) };
+
+    ghost inverse = { λ h. record { n = h.n; e = h.e } };
+}
+
+impl Plane {
+    pub fn n(&self) -> V3
+        ensures value { result ≡ self.now.n }
+        ensures primitive { IsPrimitive result }
+        ensures within { IsWithin normal_reach result }
+    {
+        self.n
+    }
+
+    pub fn e(&self) -> i128
+        ensures value { result ≡ self.now.e }
+        ensures within { unsigned_abs result ≤ level_reach }
+    {
+        self.e
+    }
+
+    /// The plane of three points, with a normal along `(b - a) x (c - a)`; None where they are collinear.
+    pub fn through(a: V3, b: V3, c: V3) -> Option<Plane>
+        requires first { IsWithin reach a }
+        requires second { IsWithin reach b }
+        requires third { IsWithin reach c }
+        ensures { result ≡ plane_through a b c }
+    {
+        let normal = normal(a, b, c);
+        let divisor = divisor(normal);
+        if divisor == 0 {
+            return None;
+        }
+        let n = divided(normal, signed(divisor));
+        Some(Plane {
+            n,
+            e: product(n, a),
+        })
+    }
+
+    /// The same plane with the opposite normal.
+    pub fn flip(self) -> Plane
+        ensures { result ≡ turned self }
+    {
+        Plane {
+            n: self.n.neg(),
+            e: -self.e,
+        }
+    }
+
+    /// The plane through a coordinate of an axis, of 0, 1 and 2, with the normal along the axis or against it.
+    pub fn along(axis: u8, positive: bool, at: i64) -> Plane
+        requires axis { axis < 3 }
+        requires within { unsigned_abs at ≤ reach }
+        ensures { result ≡ plane_along axis positive at }
+    {
+        let plane = Plane {
+            n: unit(axis),
+            e: i128::from(at),
+        };
+        if positive { plane } else { plane.flip() }
+    }
+
+    /// `n . p - e`: above 0 beyond the plane.
+    pub fn side(&self, p: V3) -> i128
+        requires { IsWithin reach p }
+        ensures value { result ≡ side_of self.now p }
+        ensures within { unsigned_abs result ≤ 2 * level_reach }
+    {
+        beyond(product(self.n, p), self.e)
+    }
+
+    /// No point is beyond the plane.
+    pub fn supports(&self, points: &[V3]) -> bool
+        requires { All (IsWithin reach) points.now }
+        ensures { IsTrue result ↔ Supports self.now points.now }
+    {
+        points.iter().all(|&p| self.side(p) <= 0)
+    }
+}
+
+fn unit(axis: u8) -> V3
+    requires { axis < 3 }
+    ensures { result ≡ unit_along axis }
+{
+    match axis {
+        0 => V3 { x: 1, y: 0, z: 0 },
+        1 => V3 { x: 0, y: 1, z: 0 },
+        _ => V3 { x: 0, y: 0, z: 1 },
+    }
+}
+
+fn difference(a: V3, b: V3) -> V3
+    requires first { IsWithin reach a }
+    requires second { IsWithin reach b }
+    ensures value { result ≡ difference_of a b }
+    ensures within { IsWithin (2 * reach) result }
+{
+    a.sub(b)
+}
+
+fn normal(a: V3, b: V3, c: V3) -> V3
+    requires first { IsWithin reach a }
+    requires second { IsWithin reach b }
+    requires third { IsWithin reach c }
+    ensures value { result ≡ normal_of a b c }
+    ensures within { IsWithin normal_reach result }
+{
+    difference(b, a).cross(difference(c, a))
+}
+
+// The scalar product of a plane's normal and a point.
+fn product(n: V3, p: V3) -> i128
+    requires normal { IsWithin normal_reach n }
+    requires point { IsWithin reach p }
+    ensures value { result ≡ dot_of n p }
+    ensures within { unsigned_abs result ≤ level_reach }
+{
+    n.dot(p)
+}
+
+fn beyond(product: i128, e: i128) -> i128
+    requires product { unsigned_abs product ≤ level_reach }
+    requires level { unsigned_abs e ≤ level_reach }
+    ensures value { result ≡ product -ℤ e }
+    ensures within { unsigned_abs result ≤ 2 * level_reach }
+{
+    product - e
+}
+
+fn magnitude(a: i64) -> u128
+    ensures { result ≡ unsigned_abs a }
+{
+    u128::from(a.unsigned_abs())
+}
+
+fn divisor(v: V3) -> u128
+    ensures { result ≡ divisor_of v }
+{
+    gcd(magnitude(v.x), gcd(magnitude(v.y), magnitude(v.z)))
+}
+
+// A divisor as a number with a sign.
+fn signed(divisor: u128) -> i64
+    requires { divisor ≤ normal_reach }
+    ensures { result ≡ pos divisor }
+{
+    divisor as i64
+}
+
+fn quotient(a: i64, b: i64) -> i64
+    requires within { unsigned_abs a ≤ normal_reach }
+    requires positive { pos 0 <ℤ b }
+    ensures { result ≡ int_div a b }
+{
+    a / b
+}
+
+fn divided(v: V3, d: i64) -> V3
+    requires within { IsWithin normal_reach v }
+    requires is_divisor { d ≡ pos (divisor_of v) }
+    requires positive { 0 < divisor_of v }
+    ensures { result ≡ primitive v }
+{
+    V3 {
+        x: quotient(v.x, d),
+        y: quotient(v.y, d),
+        z: quotient(v.z, d),
+    }
+}

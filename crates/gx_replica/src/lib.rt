@@ -1,0 +1,6 @@
+//! Replicas: equal cells that fill a mother along one axis.
+#![tactic(auto)]
+
+mod replica;
+
+pub use replica::{replica_at, replica_fits};

@@ -1,0 +1,98 @@
+ghost use Rattle.std.specs.Prelude.{◌≡◌, ◌+◌, ◌-◌, ◌*◌, ◌*ℤ◌, ◌%◌, ◌<◌, ◌≤◌, ◌↔◌, pos, unsigned_abs, IsTrue};
+ghost use Rattle.gx_num.specs.Vector.{IsWithin};
+ghost use Rattle.gx_replica.specs.Replica.{coordinate, along, Fills, centre_of};
+
+use gx_num::{M, V3};
+
+/// Whether so many cells of the width fill the mother along the axis; both vectors are half-lengths.
+pub fn replica_fits(mother: V3, cell: V3, axis: u8, count: u32, width: i64) -> bool
+    requires axis { axis < 3 }
+    requires some { 1 ≤ count }
+    requires count { count ≤ 4096 }
+    requires mother { IsWithin (unsigned_abs M) mother }
+    requires cell { IsWithin (unsigned_abs M) cell }
+    requires width { unsigned_abs width ≤ 2 * unsigned_abs M }
+    ensures { IsTrue result ↔ Fills mother cell axis count width }
+{
+    if width <= 0 {
+        return false;
+    }
+    if 2 * on_axis(cell, axis) != width {
+        return false;
+    }
+    if times(count, width) != 2 * on_axis(mother, axis) {
+        return false;
+    }
+    if axis != 0 && cell.x != mother.x {
+        return false;
+    }
+    if axis != 1 && cell.y != mother.y {
+        return false;
+    }
+    if axis != 2 && cell.z != mother.z {
+        return false;
+    }
+    true
+}
+
+/// The centre of a copy in the mother.
+pub fn replica_at(axis: u8, count: u32, width: i64, i: u32) -> V3
+    requires axis { axis < 3 }
+    requires copy { i < count }
+    requires count { count ≤ 4096 }
+    requires width { unsigned_abs width ≤ 2 * unsigned_abs M }
+    requires even { unsigned_abs width % 2 ≡ 0 }
+    ensures { result ≡ centre_of axis count width i }
+{
+    let first = -(times(count - 1, width) / 2);
+    on_axis_at(axis, first + times(i, width))
+}
+
+fn times(n: u32, width: i64) -> i64
+    requires n { n ≤ 4096 }
+    requires width { unsigned_abs width ≤ 2 * unsigned_abs M }
+    ensures value { result ≡ pos n *ℤ width }
+    ensures bound { unsigned_abs result ≤ 4096 * (2 * unsigned_abs M) }
+{
+    i64::from(n) * width
+}
+
+fn on_axis(v: V3, axis: u8) -> i64
+    requires { IsWithin (unsigned_abs M) v }
+    ensures value { result ≡ coordinate axis v }
+    ensures bound { unsigned_abs result ≤ unsigned_abs M }
+{
+    match axis {
+        0 => v.x,
+        1 => v.y,
+        _ => v.z,
+    }
+}
+
+fn on_axis_at(axis: u8, value: i64) -> V3
+    ensures { result ≡ along axis value }
+{
+    V3 {
+        x: if axis == 0 { value } else { 0 },
+        y: if axis == 1 { value } else { 0 },
+        z: if axis == 2 { value } else { 0 },
+    }
+}
+
+#[cfg(test)]
+mod tests {
+    use super::*;
+
+    // Five cells of width 4 have their centres at -8, -4, 0, 4 and 8.
+    #[test]
+    fn five_cells_fill_a_mother(rt: HostRuntime) {
+        assert_eq!(rt; replica_at(0, 5, 4, 0), V3 { x: -8, y: 0, z: 0 });
+        assert_eq!(rt; replica_at(1, 5, 4, 2), V3 { x: 0, y: 0, z: 0 });
+        assert_eq!(rt; replica_at(2, 5, 4, 4), V3 { x: 0, y: 0, z: 8 });
+        let mother = V3 { x: 10, y: 7, z: 7 };
+        let cell = V3 { x: 2, y: 7, z: 7 };
+        assert!(rt; replica_fits(mother, cell, 0, 5, 4));
+        assert!(rt; !replica_fits(mother, cell, 0, 4, 4));
+        assert!(rt; !replica_fits(mother, cell, 1, 5, 4));
+    }
+}

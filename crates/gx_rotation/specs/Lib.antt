@@ -1,0 +1,5 @@
+pub mod Axis
+pub mod Given
+pub mod Laws
+pub mod Matrix
+pub mod Rotation

@@ -1,0 +1,49 @@
+-- Matrices of three rows of whole numbers: product, image of a vector, determinant (any text on linear algebra).
+use Rattle.std.specs.Prelude.{◌≡◌, ℤ, ◌+ℤ◌, ◌-ℤ◌, ◌*ℤ◌, pos}
+use Rattle.gx_num.specs.declared.vector.V3.{V3}
+use Rattle.gx_num.specs.Vector.{dot_of}
+
+-- a matrix by its rows
+pub record Matrix : Type 0 where
+  pub x : V3
+  pub y : V3
+  pub z : V3
+
+-- the columns as rows
+abbrev pub transpose : Matrix → Matrix
+transpose m = record {
+  x = record { x = m.x.x; y = m.y.x; z = m.z.x };
+  y = record { x = m.x.y; y = m.y.y; z = m.z.y };
+  z = record { x = m.x.z; y = m.y.z; z = m.z.z };
+}
+
+-- each entry is the scalar product of a row of the first and a column of the second
+abbrev pub product : Matrix → Matrix → Matrix
+product a b = let columns = transpose b in record {
+  x = record { x = dot_of a.x columns.x; y = dot_of a.x columns.y; z = dot_of a.x columns.z };
+  y = record { x = dot_of a.y columns.x; y = dot_of a.y columns.y; z = dot_of a.y columns.z };
+  z = record { x = dot_of a.z columns.x; y = dot_of a.z columns.y; z = dot_of a.z columns.z };
+}
+
+-- the matrix times the vector
+abbrev pub image : Matrix → V3 → V3
+image m v = record { x = dot_of m.x v; y = dot_of m.y v; z = dot_of m.z v }
+
+-- the same as three equations
+pub record IsImage (m : Matrix) (v result : V3) : Type 0 where
+  pub x : result.x ≡ dot_of m.x v
+  pub y : result.y ≡ dot_of m.y v
+  pub z : result.z ≡ dot_of m.z v
+
+abbrev pub identity : Matrix
+identity = record {
+  x = record { x = pos 1; y = pos 0; z = pos 0 };
+  y = record { x = pos 0; y = pos 1; z = pos 0 };
+  z = record { x = pos 0; y = pos 0; z = pos 1 };
+}
+
+-- expanded along the first row
+abbrev pub determinant : Matrix → ℤ
+determinant m =
+    (m.x.x *ℤ (m.y.y *ℤ m.z.z -ℤ m.y.z *ℤ m.z.y) +ℤ m.x.y *ℤ (m.y.z *ℤ m.z.x -ℤ m.y.x *ℤ m.z.z))
+    +ℤ m.x.z *ℤ (m.y.x *ℤ m.z.y -ℤ m.y.y *ℤ m.z.x)
