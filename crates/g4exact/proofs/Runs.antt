@@ -1,0 +1,93 @@
+-- How a run's parts make its clauses.
+use Rattle.std.proofs.Common.{◌≡◌, ℕ, ◌<◌, ◌≤◌, inl, inr, true, List, [], ◌++◌, length, drop, Option, None, Some, Err, refl, sym, ap, ◌∙◌, subst, arith, length-append, append-nil}
+use Rattle.std.specs.Prelude.{nat_lt}
+use Rattle.std.specs.Option.{option_map}
+use Rattle.std.specs.Io.KnownBytes.{IsAtEnd}
+use Rattle.std.proofs.lemmas.Bool.{cases_lt}
+use Rattle.std.proofs.lemmas.Bool.Decides.{nat_tests}
+use Rattle.std.proofs.lemmas.List.{drop_all, drop_at}
+use Rattle.gx_io.specs.Bytes.{with_before, Rose}
+use Rattle.gx_reader.specs.Reading.{reading, not_built, most_bytes}
+use Rattle.g4exact.specs.declared.outcome.Status.{Status}
+use Rattle.g4exact.specs.declared.outcome.Status.TheVariants.{Clean, Refuted, TextFault as Faulty, WordsFault, ReadFault, WriteFault, NoMemory}
+use Rattle.g4exact.specs.declared.command.Command.{Command}
+use Rattle.g4exact.specs.declared.command.Command.TheVariants.{Trace}
+use Rattle.g4exact.specs.Output.{IsOutput, IsTraceOf}
+use Rattle.g4exact.specs.Ends.{Ends, IsTold, Blames, Completes, IsReadOut, most_read}
+
+-- some text is told
+pub told : (left : Option (List ℕ)) → (text : List ℕ) × IsTold left text
+told None = ([], tt)
+told (Some text) = (text, refl)
+
+-- no fault, so the whole output
+pub complete_from : (output : List ℕ → Status → Type 0) (old new : Option (List ℕ)) (s s' k k' : ℕ) (status : Status)
+    → Ends output old new status → Blames s s' k k' status → (Rose s s' → ⊥) → (Rose k k' → ⊥) → Completes output old new status
+complete_from output old new s s' k k' Clean e b p q = inl e
+complete_from output old new s s' k k' Refuted e b p q = inl e
+complete_from output old new s s' k k' Faulty e b p q = inl e
+complete_from output old new s s' k k' WordsFault e b p q = inl e
+complete_from output old new s s' k k' ReadFault e b p q = absurd (p b.0)
+complete_from output old new s s' k k' WriteFault e b p q = absurd (q b.1)
+complete_from output old new s s' k k' NoMemory e b p q = inr refl
+
+too_long : (text : List ℕ) → most_bytes < length text → reading text ≡ Err not_built
+too_long text h = let e : nat_lt most_bytes (length text) ≡ true = grind (arith, nat_tests) in rw e refl
+
+-- what was read of the source reads as all that it had
+pub record ReadsAll (left left' : Option (List ℕ)) (taken : List ℕ) : Type 0 where
+  pub text : List ℕ
+  pub told : IsTold left text
+  pub same : reading text ≡ reading taken
+  pub rest : left' ≡ option_map (drop most_read) left
+
+pub reads_all : (left left' : Option (List ℕ)) (taken : List ℕ) → left ≡ with_before taken left' → length taken ≤ most_read → (length taken < most_read → IsAtEnd left') → ReadsAll left left' taken
+unfolding with_before
+reads_all None None taken e h end = record { text = taken; told = tt; same = refl; rest = refl }
+reads_all None (Some rest) taken e h end = absurd cc
+reads_all (Some text) None taken e h end = absurd cc
+reads_all (Some text) (Some rest) taken e h end =
+    elim (cases_lt (length taken) most_read) [
+      | inl short ↦
+          let all : text ≡ taken = some_same text (taken ++ rest) e ∙ ap (λ l. taken ++ l) (end short) ∙ append-nil taken in
+          record { text = text; told = refl; same = ap reading all; rest = ap Some (end short ∙ sym (drop_all most_read text (short_text text taken all short))) }
+      | inr long ↦
+          let all : text ≡ taken ++ rest = some_same text (taken ++ rest) e in
+          let one = too_long text (long_text text taken rest all long) in
+          let two = too_long taken (omega (arith, long)) in
+          record { text = text; told = refl; same = one ∙ sym two; rest = ap Some (sym (drop_at taken rest most_read (omega (arith, long))) ∙ ap (drop most_read) (sym all)) }
+    ]
+  where
+    some_same : (a b : List ℕ) → Some a ≡ Some b → a ≡ b
+    some_same a b q = cc
+
+    short_text : (text taken : List ℕ) → text ≡ taken → length taken < most_read → length text ≤ most_read
+    short_text text taken q s = omega (arith, ap length q)
+
+    long_text : (text taken rest : List ℕ) → text ≡ taken ++ rest → most_read ≤ length taken → most_bytes < length text
+    long_text text taken rest q l = omega (arith, ap length q, length-append taken rest)
+
+-- texts that read as one have one output
+pub same_output : (command : Command) (text taken : List ℕ) (old new : Option (List ℕ)) (status : Status) → reading text ≡ reading taken
+    → Ends (IsOutput (Some command) taken) old new status → Ends (IsOutput (Some command) text) old new status
+same_output Trace text taken old new status e h = subst (λ read. Ends (IsTraceOf read) old new status) (sym e) h
+
+-- a source that was read out is so at each status
+pub read_out : (old new : Option (List ℕ)) (status : Status) → new ≡ option_map (drop most_read) old → IsReadOut old new status
+read_out old new Clean e = e
+read_out old new Refuted e = e
+read_out old new Faulty e = e
+read_out old new WordsFault e = e
+read_out old new ReadFault e = tt
+read_out old new WriteFault e = e
+read_out old new NoMemory e = tt
+
+-- what blames the sink alone, whatever the source's count is, goes with a source whose count is kept
+pub blamed : (s s' k k' : ℕ) (status : Status) → s' ≡ s → ((n : ℕ) → Blames n n k k' status) → Blames s s' k k' status
+blamed s s' k k' Clean e b = (e, (b 0).1)
+blamed s s' k k' Refuted e b = (e, (b 0).1)
+blamed s s' k k' Faulty e b = (e, (b 0).1)
+blamed s s' k k' WordsFault e b = (e, (b 0).1)
+blamed s s' k k' ReadFault e b = absurd (elim (b 0).0 [ inl rose ↦ omega arith | inr at_end ↦ omega arith ])
+blamed s s' k k' WriteFault e b = (e, (b 0).1)
+blamed s s' k k' NoMemory e b = (e, (b 0).1)

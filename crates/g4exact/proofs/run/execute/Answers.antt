@@ -1,0 +1,27 @@
+use Rattle.std.proofs.Common.{refl, arith}
+use Rattle.g4exact.proofs.Runs.{told, reads_all, ReadsAll, same_output, read_out, blamed}
+use Rattle.g4exact.proofs.run.execute.Goals as goal
+use Rattle.g4exact.proofs.run.execute.Goals.{After-answer}
+
+whole : (g : _) (c : After-answer g) → ReadsAll (g.S.Source.left c.args.source.now) (g.S.Source.left c.read_up_to.new.source) c.deref.result.now
+whole g c =
+    let read = c.in-Ok.ensures in
+    let same = c.deref.ensures.value in
+    reads_all _ _ _ (rw (← same) at read.bytes) (omega (arith, read.bound, c.deref.ensures.len)) (λ short. read.end (omega (arith, short, c.deref.ensures.len)))
+
+pub returns-in-Ok-clause-output : goal.returns-in-Ok-clause-output
+returns-in-Ok-clause-output g c =
+    let w = whole g (goal.at.returns-in-Ok-clause-output g c).After-answer in
+    (w.text, w.told, same_output c.args.command w.text _ _ _ c.answer.result w.same c.answer.ensures.output)
+
+pub returns-in-Ok-clause-read : goal.returns-in-Ok-clause-read
+returns-in-Ok-clause-read g c = read_out _ _ c.answer.result (whole g (goal.at.returns-in-Ok-clause-read g c).After-answer).rest
+
+pub returns-in-Err-Failed-clause-output : goal.returns-in-Err-Failed-clause-output
+returns-in-Err-Failed-clause-output g c = let text = told (g.S.Source.left c.args.source.now) in (text.0, text.1, refl)
+
+pub returns-in-Err-NoMemory-clause-output : goal.returns-in-Err-NoMemory-clause-output
+returns-in-Err-NoMemory-clause-output g c = let text = told (g.S.Source.left c.args.source.now) in (text.0, text.1, refl)
+
+pub returns-in-Ok-clause-blames : goal.returns-in-Ok-clause-blames
+returns-in-Ok-clause-blames g c = blamed _ _ _ _ c.answer.result c.in-Ok.ensures.kept c.answer.ensures.blames

@@ -1,0 +1,34 @@
+-- What the program writes, and with which status it ends.
+use Rattle.std.specs.Prelude.{◌≡◌, ℕ, ◌+◌, List, [], ◌∷◌, ◌++◌, Option, None, Some, Result, Ok, Err}
+use Rattle.std.specs.List.{flat_map}
+use Rattle.gx_num.specs.declared.ray.Ray.{Ray}
+use Rattle.gx_path.specs.Report.{Row, IsReport}
+use Rattle.gx_tree.specs.World.{World, place_on}
+use Rattle.gx_reader.specs.declared.fault.TextFault.{TextFault}
+use Rattle.gx_reader.specs.declared.input.Input.{Input}
+use Rattle.gx_reader.specs.Reading.{reading}
+use Rattle.gx_print.specs.Texts.{usage_line, ray_head, row_text, fault_text}
+use Rattle.g4exact.specs.declared.command.Command.{Command}
+use Rattle.g4exact.specs.declared.command.Command.TheVariants.{Trace}
+use Rattle.g4exact.specs.declared.outcome.Status.{Status}
+use Rattle.g4exact.specs.declared.outcome.Status.TheVariants.{Clean, TextFault as Faulty, WordsFault}
+
+-- a ray's head, and its rows
+abbrev pub ray_text : World → ℕ → List Row → List ℕ
+ray_text world number rows = ray_head number ++ flat_map (row_text world) rows
+
+-- for each ray, numbered from here on, its head and the rows of its report
+abbrev pub IsTrace : World → ℕ → List Ray → List ℕ → Type 0
+IsTrace world number [] bytes = bytes ≡ []
+IsTrace world number (ray ∷ rays) bytes =
+    (rows : List Row) × (rest : List ℕ) × IsReport (place_on world ray) rows × IsTrace world (number + 1) rays rest × (bytes ≡ ray_text world number rows ++ rest)
+
+-- the line of the text's fault; or where there is none, the trace of its rays
+abbrev pub IsTraceOf : Result Input TextFault → List ℕ → Status → Type 0
+IsTraceOf (Err fault) bytes status = (bytes ≡ fault_text fault) × (status ≡ Faulty)
+IsTraceOf (Ok input) bytes status = IsTrace input.tree 1 input.rays bytes × (status ≡ Clean)
+
+-- the output of a command for a text; words that are no command have the usage line
+abbrev pub IsOutput : Option Command → List ℕ → List ℕ → Status → Type 0
+IsOutput None text bytes status = (bytes ≡ usage_line) × (status ≡ WordsFault)
+IsOutput (Some Trace) text bytes status = IsTraceOf (reading text) bytes status

@@ -1,0 +1,75 @@
+//! Reads a detector geometry and rays as text, and writes each ray's exact report.
+#![tactic(auto)]
+
+mod command;
+mod outcome;
+mod run;
+#[cfg(test)]
+mod tests;
+mod trace;
+
+ghost use Rattle.std.specs.Prelude.{◌≡◌, ◌<◌};
+
+pub use command::Command;
+use gx_io::{Sink, Source, StdSink, StdSource};
+use gx_steps::Steps;
+pub use outcome::Status;
+pub use run::run;
+use std::alloc::{AllocError, Global};
+use std::env;
+use std::io::ErrorKind;
+use std::marker::Brand;
+use std::process::ExitCode;
+use std::rt::Env;
+use std::sync::ledger::{Blank, Ledger};
+
+fn main(rt: HostRuntime) -> ExitCode {
+    let Ok(words) = words_of(&rt) else {
+        return ExitCode::from(Status::NoMemory as u8);
+    };
+    let mut source = StdSource::new(rt.stdin());
+    let mut sink = StdSink::new(rt.stdout());
+    let status = counted::<_, _, Brand, Brand>(
+        rt.alloc(),
+        &words,
+        &mut source,
+        &mut sink,
+        Blank::new(1),
+        Blank::new(1),
+    );
+    ExitCode::from(status as u8)
+}
+
+// The words after the program's name. Words that are no text are no command, and so are none.
+fn words_of(rt: &(impl Env + AllocGlobal)) -> Result<Vec<String>, AllocError> {
+    match env::args(rt) {
+        Ok(words) => words.skip(1).collect(rt.alloc()),
+        Err(error) => {
+            if error.kind() == ErrorKind::OutOfMemory {
+                return Err(AllocError);
+            }
+            Ok(Vec::new(rt.alloc()))
+        }
+    }
+}
+
+// Opens the two counters.
+fn counted<S: Source, K: Sink, T: Ledger, Q: Ledger>(
+    alloc: Global,
+    words: &[String],
+    source: &mut S,
+    sink: &mut K,
+    tests: Blank,
+    reads: Blank,
+) -> Status
+    requires tests { tests.name ≡ T.name }
+    requires tests_parts { tests.parts ≡ T.parts }
+    requires some_tests { 0 < T.parts }
+    requires reads { reads.name ≡ Q.name }
+    requires reads_parts { reads.parts ≡ Q.parts }
+    requires some_reads { 0 < Q.parts }
+{
+    let mut tests: Steps<T> = Steps::new(tests);
+    let mut reads: Steps<Q> = Steps::new(reads);
+    run(alloc, words, source, sink, &mut tests, &mut reads)
+}

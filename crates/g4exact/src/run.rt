@@ -1,0 +1,92 @@
+ghost use Rattle.std.specs.Prelude.{◌≡◌, ℕ, List, map, string_bytes, Some, None};
+ghost use Rattle.gx_io.specs.Bytes.{Rose};
+ghost use Rattle.g4exact.specs.Commands.{command_of};
+ghost use Rattle.g4exact.specs.Output.{IsOutput};
+ghost use Rattle.g4exact.specs.Ends.{Ends, IsTold, IsRead, JudgesWords, NamesWords, Blames, Completes};
+
+use crate::command::{Command, command_from};
+use crate::outcome::Status;
+use crate::trace::trace;
+use gx_io::{ReadError, Sink, Source, read_up_to};
+use gx_print::print_usage;
+use gx_reader::MAX_TEXT;
+use gx_steps::Steps;
+use std::alloc::Global;
+use std::sync::ledger::Ledger;
+
+/// Reads the text, and writes what the words ask for.
+pub fn run<S: Source, K: Sink, T: Ledger, Q: Ledger>(
+    alloc: Global,
+    words: &[String],
+    source: &mut S,
+    sink: &mut K,
+    tests: &mut Steps<T>,
+    reads: &mut Steps<Q>,
+) -> Status
+    // What is written is the output for the words and the source's bytes: all of it, a front of it, or nothing, by the status.
+    ensures output { (text : List ℕ) × IsTold (S.left source.old) text
+        × Ends (IsOutput (command_of (map string_bytes words.now)) text) (K.written sink.old) (K.written sink.new) result }
+
+    // What is read: nothing, or everything up to one byte past the most of a text.
+    ensures read { IsRead (command_of (map string_bytes words.now)) (S.left source.old) (S.left source.new) result }
+
+    // Words that are no command are judged without memory and without the source.
+    ensures words { JudgesWords (command_of (map string_bytes words.now)) result }
+
+    // A device is blamed only where its count of faults rose.
+    ensures blames { Blames (S.faults source.old) (S.faults source.new) (K.faults sink.old) (K.faults sink.new) result }
+
+    // Where neither count rose, all of the output is written, or memory was wanting.
+    ensures complete { (Rose (S.faults source.old) (S.faults source.new) → ⊥) → (Rose (K.faults sink.old) (K.faults sink.new) → ⊥)
+        → (text : List ℕ) × IsTold (S.left source.old) text
+        × Completes (IsOutput (command_of (map string_bytes words.now)) text) (K.written sink.old) (K.written sink.new) result }
+
+    // So far nothing is counted.
+    ensures tests { tests.new ≡ tests.old }
+    ensures reads { reads.new ≡ reads.old }
+{
+    match command_from(words) {
+        Some(command) => execute(alloc, command, source, sink),
+        None => usage(sink),
+    }
+}
+
+// Reads the source, and writes the command's output for its text.
+fn execute<S: Source, K: Sink>(
+    alloc: Global,
+    command: Command,
+    source: &mut S,
+    sink: &mut K,
+) -> Status
+    ensures output { (text : List ℕ) × IsTold (S.left source.old) text
+        × Ends (IsOutput (Some command) text) (K.written sink.old) (K.written sink.new) result }
+    ensures read { IsRead (Some command) (S.left source.old) (S.left source.new) result }
+    ensures blames { Blames (S.faults source.old) (S.faults source.new) (K.faults sink.old) (K.faults sink.new) result }
+{
+    match read_up_to(alloc, source, MAX_TEXT + 1) {
+        Ok(text) => answer(alloc, command, &text, sink),
+        Err(ReadError::Failed) => Status::ReadFault,
+        Err(ReadError::NoMemory) => Status::NoMemory,
+    }
+}
+
+// Writes the command's output for a text.
+fn answer<K: Sink>(alloc: Global, command: Command, text: &[u8], sink: &mut K) -> Status
+    ensures output { Ends (IsOutput (Some command) text.now) (K.written sink.old) (K.written sink.new) result }
+    ensures blames { (source : ℕ) → Blames source source (K.faults sink.old) (K.faults sink.new) result }
+{
+    match command {
+        Command::Trace => trace(alloc, text, sink),
+    }
+}
+
+fn usage<K: Sink>(sink: &mut K) -> Status
+    ensures output { (text : List ℕ) → Ends (IsOutput None text) (K.written sink.old) (K.written sink.new) result }
+    ensures words { NamesWords result }
+    ensures blames { (source : ℕ) → Blames source source (K.faults sink.old) (K.faults sink.new) result }
+{
+    match print_usage(sink) {
+        Ok(()) => Status::WordsFault,
+        Err(_) => Status::WriteFault,
+    }
+}

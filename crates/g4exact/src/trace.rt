@@ -1,0 +1,80 @@
+ghost use Rattle.std.specs.Prelude.{◌≡◌, List, ℕ};
+ghost use Rattle.gx_io.specs.Bytes.{HasCause, Writes};
+ghost use Rattle.gx_reader.specs.Rays.{IsKept};
+ghost use Rattle.gx_reader.specs.Reading.{reading};
+ghost use Rattle.gx_tree.specs.World.{place_on};
+ghost use Rattle.gx_path.specs.Report.{Row, IsReport};
+ghost use Rattle.gx_path.specs.Span.{rows_of};
+ghost use Rattle.g4exact.specs.Output.{ray_text, IsTrace, IsTraceOf};
+ghost use Rattle.g4exact.specs.Ends.{Ends, Blames, WritesTrace};
+
+use crate::outcome::Status;
+use gx_io::{Failed, Sink};
+use gx_navigator::world_span;
+use gx_num::Ray;
+use gx_path::Span;
+use gx_print::{print_fault, print_ray, print_row};
+use gx_reader::{Input, ReadError, read_text};
+use gx_tree::Hierarchy;
+use std::alloc::Global;
+
+// Writes a ray's head, and the row of a span.
+#[tactic(auto, using(gx_io::proofs::Joined::joined))]
+fn print_span<K: Sink>(
+    tree: &Hierarchy,
+    number: u32,
+    span: &Option<Span>,
+    sink: &mut K,
+) -> Result<(), Failed>
+    ensures bytes { Writes (K.written sink.old) (K.written sink.new) (ray_text tree.now number (rows_of span.now)) result }
+    ensures cause { HasCause (K.faults sink.old) (K.faults sink.new) result }
+{
+    print_ray(number, sink)?;
+    match span {
+        Some(span) => print_row(tree, span, sink),
+        None => Ok(()),
+    }
+}
+
+// Writes the head and the report of the n-th ray.
+fn print_report<K: Sink>(
+    tree: &Hierarchy,
+    number: u32,
+    ray: &Ray,
+    sink: &mut K,
+) -> Result<(), Failed>
+    requires { IsKept ray.now }
+    ensures bytes { (rows : List Row) × IsReport (place_on tree.now ray.now) rows × Writes (K.written sink.old) (K.written sink.new) (ray_text tree.now number rows) result }
+    ensures cause { HasCause (K.faults sink.old) (K.faults sink.new) result }
+{
+    print_span(tree, number, &world_span(tree, ray), sink)
+}
+
+/// Writes each ray's head and report.
+fn print_reports<K: Sink>(input: &Input, sink: &mut K) -> Result<(), Failed>
+    ensures bytes { WritesTrace input.now (K.written sink.old) (K.written sink.new) result }
+    ensures cause { HasCause (K.faults sink.old) (K.faults sink.new) result }
+{
+    for i in 0..input.rays.count() {
+        print_report(&input.tree, i + 1, &input.rays.ray(i), sink)?;
+    }
+    Ok(())
+}
+
+/// Writes what a text's trace is.
+pub fn trace<K: Sink>(alloc: Global, text: &[u8], sink: &mut K) -> Status
+    ensures output { Ends (IsTraceOf (reading text.now)) (K.written sink.old) (K.written sink.new) result }
+    ensures blames { (source : ℕ) → Blames source source (K.faults sink.old) (K.faults sink.new) result }
+{
+    match read_text(alloc, text) {
+        Ok(input) => match print_reports(&input, sink) {
+            Ok(()) => Status::Clean,
+            Err(Failed) => Status::WriteFault,
+        },
+        Err(ReadError::Text(fault)) => match print_fault(&fault, sink) {
+            Ok(()) => Status::TextFault,
+            Err(Failed) => Status::WriteFault,
+        },
+        Err(ReadError::NoMemory) => Status::NoMemory,
+    }
+}

@@ -1,0 +1,5 @@
+pub mod Along
+pub mod Ends
+pub mod Narrow
+pub mod Ratio
+pub mod Reports

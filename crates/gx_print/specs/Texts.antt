@@ -1,0 +1,37 @@
+-- The texts that the program writes. Each is this project's own.
+use Rattle.std.specs.Prelude.{ℕ, List, [], ◌++◌, ◌==◌, if◌then◌else◌, codes, decimal}
+use Rattle.gx_num.specs.Space.{Parameter}
+use Rattle.gx_path.specs.Report.{Row}
+use Rattle.gx_tree.specs.World.{World}
+use Rattle.gx_reader.specs.declared.fault.FaultName.{FaultName}
+use Rattle.gx_reader.specs.declared.fault.FaultName.TheVariants.{NotBuilt}
+use Rattle.gx_reader.specs.declared.fault.TextFault.{TextFault}
+
+abbrev pub usage_line : List ℕ
+usage_line = codes "usage: g4exact (trace | check [--brief] | list) [--grid=EXPR] | sample N\n"
+
+-- `ray n`
+abbrev pub ray_head : ℕ → List ℕ
+ray_head number = codes "ray " ++ decimal number ++ codes "\n"
+
+-- what follows a numerator: nothing where the denominator is 1, else `/` and the denominator
+abbrev pub slash_of : ℕ → List ℕ
+slash_of den = if den == 1 then [] else codes "/"
+
+abbrev pub digits_of : ℕ → List ℕ
+digits_of den = if den == 1 then [] else decimal den
+
+-- a fraction: `p`, or `p/q`
+abbrev pub fraction_text : Parameter → List ℕ
+fraction_text t = decimal t.num ++ slash_of t.den ++ digits_of t.den
+
+-- `FROM TO WORLDNAME`
+abbrev pub row_text : World → Row → List ℕ
+row_text world row = fraction_text row.from ++ codes " " ++ fraction_text row.to ++ codes " " ++ world.name ++ codes "\n"
+
+abbrev pub name_text : FaultName → List ℕ
+name_text NotBuilt = codes "NotBuilt"
+
+-- `fault LINE WORD NAME`
+abbrev pub fault_text : TextFault → List ℕ
+fault_text fault = codes "fault " ++ decimal fault.line ++ codes " " ++ decimal fault.word ++ codes " " ++ name_text fault.name ++ codes "\n"
