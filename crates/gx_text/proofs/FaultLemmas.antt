@@ -16,9 +16,6 @@ use Rattle.gx_text.specs.Unended.{has_comment, ends, brings_nothing}
 abbrev bad : ℕ → Bool
 bad b = not (is_allowed b)
 
-inc : ℕ → ℕ
-inc n = n + 1
-
 -- the place of the first byte before the comment that isn't allowed
 abbrev scan : List ℕ → Option ℕ
 scan [] = None
@@ -262,10 +259,6 @@ fault_stays number line (b ∷ rest) fault h =
 no_place : (number : ℕ) (line : List ℕ) (o : Option ℕ) → fault_at number line o ≡ None → o ≡ None
 no_place number line None e = refl
 no_place number line (Some q) e = absurd (grind (arith, nat_tests, e))
-
-or_true : (a b : Bool) → (a || b) ≡ true → a ≡ false → b ≡ true
-or_true true b e f = absurd cc
-or_true false b e f = e
 
 -- the front of a test of two
 both : (a b : Bool) → (a && not b) ≡ true → (a ≡ true) × (b ≡ false)
