@@ -1,4 +1,4 @@
-"""Writes the two texts of the measure into a folder: `rays` and `comments`."""
+"""Writes the texts of the measure into a folder: `rays`, `comments`, and `numbers` of four lengths."""
 import random
 import sys
 
@@ -19,3 +19,13 @@ line = "// " + "x" * 76 + "\n"
 with open(f"{folder}/comments", "w") as text:
     lines, rest = divmod(size - len(head), len(line))
     text.write(head + line * lines + " " * rest)
+
+# half parameters, half rays; each line has expressions
+for lines in (12500, 25000, 50000, 100000):
+    with open(f"{folder}/numbers-{lines}", "w") as text:
+        text.write(":P p0 1.5*cm\n:VOLU world BOX 1.*m (2.+$p0/15/mm*0)*m 3e3*mm Air\n")
+        for line in range(1, lines // 2):
+            text.write(f":P p{line} $p{line - 1}+({line % 7}-3)*2.5e-1*cm\n")
+        for line in range(lines // 2 - 1):
+            at = random.randint(0, lines // 2 - 1)
+            text.write(f":RAY -{line % 1000}.*mm $p{at}-$p{at} .5*cm 1 -({line % 5}+1)*5/5*mm {line % 3}*cm\n")

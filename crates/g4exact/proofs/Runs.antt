@@ -7,7 +7,9 @@ use Rattle.std.proofs.lemmas.Bool.{cases_lt}
 use Rattle.std.proofs.lemmas.Bool.Decides.{nat_tests}
 use Rattle.std.proofs.lemmas.List.{drop_all, drop_at}
 use Rattle.gx_io.specs.Bytes.{with_before, Rose}
-use Rattle.gx_reader.specs.Reading.{reading, not_built, most_bytes}
+use Rattle.gx_fraction.specs.Fraction.{Fraction}
+use Rattle.gx_table.specs.declared.fault.FaultName.TheVariants.{LongText}
+use Rattle.gx_reader.specs.Reading.{reading, fault_at, most_bytes}
 use Rattle.g4exact.specs.declared.outcome.Status.{Status}
 use Rattle.g4exact.specs.declared.outcome.Status.TheVariants.{Clean, Refuted, TextFault as Faulty, WordsFault, ReadFault, WriteFault, NoMemory}
 use Rattle.g4exact.specs.declared.command.Command.{Command}
@@ -31,31 +33,29 @@ complete_from output old new s s' k k' ReadFault e b p q = absurd (p b.0)
 complete_from output old new s s' k k' WriteFault e b p q = absurd (q b.1)
 complete_from output old new s s' k k' NoMemory e b p q = inr refl
 
-too_long : (text : List ℕ) → most_bytes < length text → reading text ≡ Err not_built
-too_long text h = let e : nat_lt most_bytes (length text) ≡ true = grind (arith, nat_tests) in rw e refl
+too_long : (grid : Fraction) (text : List ℕ) → most_bytes < length text → reading grid text ≡ Err (fault_at 0 0 LongText)
+too_long grid text h = let e : nat_lt most_bytes (length text) ≡ true = grind (arith, nat_tests) in rw e refl
 
 -- what was read of the source reads as all that it had
 pub record ReadsAll (left left' : Option (List ℕ)) (taken : List ℕ) : Type 0 where
   pub text : List ℕ
   pub told : IsTold left text
-  pub same : reading text ≡ reading taken
+  pub same : (grid : Fraction) → reading grid text ≡ reading grid taken
   pub rest : left' ≡ option_map (drop most_read) left
 
 pub reads_all : (left left' : Option (List ℕ)) (taken : List ℕ) → left ≡ with_before taken left' → length taken ≤ most_read → (length taken < most_read → IsAtEnd left') → ReadsAll left left' taken
 unfolding with_before
-reads_all None None taken e h end = record { text = taken; told = tt; same = refl; rest = refl }
+reads_all None None taken e h end = record { text = taken; told = tt; same = λ grid. refl; rest = refl }
 reads_all None (Some rest) taken e h end = absurd cc
 reads_all (Some text) None taken e h end = absurd cc
 reads_all (Some text) (Some rest) taken e h end =
     elim (cases_lt (length taken) most_read) [
       | inl short ↦
           let all : text ≡ taken = some_same text (taken ++ rest) e ∙ ap (λ l. taken ++ l) (end short) ∙ append-nil taken in
-          record { text = text; told = refl; same = ap reading all; rest = ap Some (end short ∙ sym (drop_all most_read text (short_text text taken all short))) }
+          record { text = text; told = refl; same = λ grid. ap (reading grid) all; rest = ap Some (end short ∙ sym (drop_all most_read text (short_text text taken all short))) }
       | inr long ↦
           let all : text ≡ taken ++ rest = some_same text (taken ++ rest) e in
-          let one = too_long text (long_text text taken rest all long) in
-          let two = too_long taken (omega (arith, long)) in
-          record { text = text; told = refl; same = one ∙ sym two; rest = ap Some (sym (drop_at taken rest most_read (omega (arith, long))) ∙ ap (drop most_read) (sym all)) }
+          record { text = text; told = refl; same = λ grid. too_long grid text (long_text text taken rest all long) ∙ sym (too_long grid taken (omega (arith, long))); rest = ap Some (sym (drop_at taken rest most_read (omega (arith, long))) ∙ ap (drop most_read) (sym all)) }
     ]
   where
     some_same : (a b : List ℕ) → Some a ≡ Some b → a ≡ b
@@ -68,9 +68,9 @@ reads_all (Some text) (Some rest) taken e h end =
     long_text text taken rest q l = omega (arith, ap length q, length-append taken rest)
 
 -- texts that read as one have one output
-pub same_output : (command : Command) (text taken : List ℕ) (old new : Option (List ℕ)) (status : Status) → reading text ≡ reading taken
+pub same_output : (command : Command) (text taken : List ℕ) (old new : Option (List ℕ)) (status : Status) → ((grid : Fraction) → reading grid text ≡ reading grid taken)
     → Ends (IsOutput (Some command) taken) old new status → Ends (IsOutput (Some command) text) old new status
-same_output Trace text taken old new status e h = subst (λ read. Ends (IsTraceOf read) old new status) (sym e) h
+same_output (Trace grid) text taken old new status e h = subst (λ read. Ends (IsTraceOf read) old new status) (sym (e grid)) h
 
 -- a source that was read out is so at each status
 pub read_out : (old new : Option (List ℕ)) (status : Status) → new ≡ option_map (drop most_read) old → IsReadOut old new status

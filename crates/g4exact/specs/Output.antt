@@ -7,7 +7,7 @@ use Rattle.gx_tree.specs.World.{World, place_on}
 use Rattle.gx_reader.specs.declared.fault.TextFault.{TextFault}
 use Rattle.gx_reader.specs.declared.input.Input.{Input}
 use Rattle.gx_reader.specs.Reading.{reading}
-use Rattle.gx_print.specs.Texts.{usage_line, ray_head, row_text, fault_text}
+use Rattle.gx_print.specs.Texts.{usage_line, ray_head, row_text, fault_line}
 use Rattle.g4exact.specs.declared.command.Command.{Command}
 use Rattle.g4exact.specs.declared.command.Command.TheVariants.{Trace}
 use Rattle.g4exact.specs.declared.outcome.Status.{Status}
@@ -25,10 +25,10 @@ IsTrace world number (ray ∷ rays) bytes =
 
 -- the line of the text's fault; or where there is none, the trace of its rays
 abbrev pub IsTraceOf : Result Input TextFault → List ℕ → Status → Type 0
-IsTraceOf (Err fault) bytes status = (bytes ≡ fault_text fault) × (status ≡ Faulty)
+IsTraceOf (Err fault) bytes status = (bytes ≡ fault_line fault) × (status ≡ Faulty)
 IsTraceOf (Ok input) bytes status = IsTrace input.tree 1 input.rays bytes × (status ≡ Clean)
 
 -- the output of a command for a text; words that are no command have the usage line
 abbrev pub IsOutput : Option Command → List ℕ → List ℕ → Status → Type 0
 IsOutput None text bytes status = (bytes ≡ usage_line) × (status ≡ WordsFault)
-IsOutput (Some Trace) text bytes status = IsTraceOf (reading text) bytes status
+IsOutput (Some (Trace grid)) text bytes status = IsTraceOf (reading grid text) bytes status

@@ -1,24 +1,79 @@
-ghost use Rattle.std.specs.Prelude.{◌≡◌, map, string_bytes};
-ghost use Rattle.g4exact.specs.Commands.{command_of};
+ghost use Rattle.std.specs.Prelude.{◌≡◌, [], map, string_bytes};
+ghost use Rattle.gx_expr.specs.Eval.{evaluated};
+ghost use Rattle.g4exact.specs.Commands.{step_of, grid_of, with_grid, options_from, no_options, command_of};
+
+use gx_expr::{Grid, Params, eval};
+use std::alloc::Global;
+
+const OPTION: &[u8; 7] = b"--grid=";
 
 /// What the words ask for.
 #[derive(Clone, Copy, Debug, PartialEq, Eq)]
 pub enum Command {
-    Trace,
+    Trace { grid: Grid },
 }
 
-/// The command that the words after the program's name are, if they are one.
-pub fn command_from(words: &[String]) -> Option<Command>
+/// The command that the words after the program's name are, if they are one. Takes no memory.
+pub fn command_from(alloc: Global, words: &[String]) -> Option<Command>
     ensures { result ≡ command_of (map string_bytes words.now) }
 {
-    match words {
-        [first, second] => {
-            if first.as_str() == "trace" && second.as_str() == "--grid=1*mm" {
-                Some(Command::Trace)
-            } else {
-                None
-            }
-        }
-        _ => None,
+    let [first, words @ ..] = words else {
+        return None;
+    };
+    if first.as_str() != "trace" {
+        return None;
+    }
+    let options = options_of(alloc, words)?;
+    Some(Command::Trace {
+        grid: options.grid.unwrap_or(Grid::tenth()),
+    })
+}
+
+// The options of a command, each at most once.
+#[derive(Clone, Copy)]
+struct Options {
+    grid: Option<Grid>,
+}
+
+fn options_of(alloc: Global, words: &[String]) -> Option<Options>
+    ensures { result ≡ options_from no_options (map string_bytes words.now) }
+{
+    let mut options = Options { grid: None };
+    for word in words {
+        options = with_option(alloc, options, word.as_bytes())?;
+    }
+    Some(options)
+}
+
+fn with_option(alloc: Global, options: Options, word: &[u8]) -> Option<Options>
+    ensures { result ≡ with_grid options.grid (grid_of word.now) }
+{
+    if options.grid.is_some() {
+        return None;
+    }
+    let grid = grid_from(alloc, word)?;
+    Some(Options { grid: Some(grid) })
+}
+
+// The grid that a word `--grid=EXPR` gives.
+fn grid_from(alloc: Global, word: &[u8]) -> Option<Grid>
+    ensures { result ≡ grid_of word.now }
+{
+    if word.len() < OPTION.len() {
+        return None;
+    }
+    let (option, expression) = word.split_at(OPTION.len());
+    if option != OPTION.as_slice() {
+        return None;
+    }
+    step(alloc, expression)
+}
+
+fn step(alloc: Global, word: &[u8]) -> Option<Grid>
+    ensures { result ≡ step_of (evaluated [] word.now) }
+{
+    match eval(&Params::new(alloc), word) {
+        Ok(value) => Grid::new(&value),
+        Err(_) => None,
     }
 }

@@ -45,7 +45,7 @@ pub fn run<S: Source, K: Sink, T: Ledger, Q: Ledger>(
     ensures tests { tests.new ≡ tests.old }
     ensures reads { reads.new ≡ reads.old }
 {
-    match command_from(words) {
+    match command_from(alloc, words) {
         Some(command) => execute(alloc, command, source, sink),
         None => usage(sink),
     }
@@ -76,7 +76,7 @@ fn answer<K: Sink>(alloc: Global, command: Command, text: &[u8], sink: &mut K) -
     ensures blames { (source : ℕ) → Blames source source (K.faults sink.old) (K.faults sink.new) result }
 {
     match command {
-        Command::Trace => trace(alloc, text, sink),
+        Command::Trace { grid } => trace(alloc, &grid, text, sink),
     }
 }
 

@@ -104,37 +104,144 @@ fn each_ray_has_its_report(rt: HostRuntime) -> Result<(), Fail> {
     Ok(())
 }
 
+// A text's first fault, with the line and the word that have it.
 #[test]
-fn other_texts_are_not_built(rt: HostRuntime) -> Result<(), Fail> {
+fn each_text_has_its_first_fault(rt: HostRuntime) -> Result<(), Fail> {
     let alloc = rt.alloc();
-    let long = vec![in alloc; b' '; 65537]?;
     let texts = [
-        "".as_bytes(),
-        b"// nothing",
-        b":VOLU world TRD 10 10 10 Air\n:RAY -20 0 0 1 0 0\n",
-        b":RAY -20 0 0 1 0 0\n:VOLU world BOX 10 10 10 Air\n",
-        b":VOLU world BOX 10 10 10 Air\n:VOLU world BOX 10 10 10 Air\n",
-        b":volu world BOX 10 10 10 Air\n",
-        b":VOLU world BOX 10 10 10\n",
-        b":VOLU world BOX 10 10 10 Air more\n",
-        b":VOLU world BOX 10 0 10 Air\n",
-        b":VOLU world BOX 10 -1 10 Air\n",
-        b":VOLU world BOX 10 10 262145 Air\n",
-        b":VOLU world BOX 0000010 10 10 Air\n",
-        b":VOLU wo$ld BOX 10 10 10 Air\n",
-        b":VOLU world BOX 10 10 10 :Air\n",
-        b":VOLU world BOX 10 10 10 Air\n:RAY 1 1 1 0 -0 0\n",
-        b":VOLU world BOX 10 10 10 Air\n:RAY 1 1 1 0 1\n",
-        b":VOLU world BOX 10 10 10 Air \x80\n",
-        b":VOLU world BOX 10 10 10 Air\r \n",
-        long.as_slice(),
+        // the form, word by word
+        ("", "0 0 NotBuilt"),
+        ("// nothing", "0 0 NotBuilt"),
+        (":P a 1", "0 0 NotBuilt"),
+        (
+            ":VOLU world TRD 10 10 10 Air\n:RAY -20 0 0 1 0 0",
+            "1 3 NotBuilt",
+        ),
+        (":VOLU world box 10 10 10 Air", "1 3 NotBuilt"),
+        (
+            ":RAY -20 0 0 1 0 0\n:VOLU world BOX 10 10 10 Air",
+            "1 1 NotBuilt",
+        ),
+        (
+            ":VOLU a BOX 1 1 1 Air\n:VOLU a BOX 1 1 1 Air",
+            "2 1 NotBuilt",
+        ),
+        ("\n:volu world BOX 10 10 10 Air", "2 1 NotBuilt"),
+        (":VOLU world BOX 10 10 10", "1 7 NotBuilt"),
+        (":VOLU world BOX 10 10 10 Air more", "1 8 NotBuilt"),
+        (":VOLU world BOX 10 0 10 Air", "1 5 NotBuilt"),
+        (":VOLU world BOX 10 -1 10 Air", "1 5 NotBuilt"),
+        (":VOLU wo$ld BOX 1/0 10 10 Air", "1 2 NotBuilt"),
+        (":VOLU world BOX 10 10 10 :Air", "1 7 NotBuilt"),
+        (":VOLU w BOX 1 1 1 Air\n:RAY 1 1 1 0 -0 0", "2 5 NotBuilt"),
+        (":VOLU w BOX 1 1 1 Air\n:RAY 1 1 1 0 1", "2 7 NotBuilt"),
+        (":P a-b 1", "1 2 NotBuilt"),
+        (":P a", "1 3 NotBuilt"),
+        (":P a 1 2", "1 4 NotBuilt"),
+        // expressions and steps
+        (":P a 5mm", "1 3 Syntax"),
+        (":P a $b\n:P b 1", "1 3 UnknownParam"),
+        (":P a 3*rad", "1 3 UnknownUnit"),
+        (":VOLU w BOX 1 1/0 x Air", "1 5 DivideByZero"),
+        (":VOLU w BOX 1e19 1 1 Air", "1 4 TooWide"),
+        (":VOLU w BOX 1 1 3*deg Air", "1 6 UnitKind"),
+        (":P d 10\n:VOLU world BOX $d/3 10 10 Air", "2 4 OffGrid"),
+        (":VOLU world BOX 262145 1 1 Air", "1 4 TooFar"),
+        // parameters
+        (":P a 1\n:P a 2", "2 2 Twice"),
+        (":P a 1\n:P a 1*mm", "2 2 Twice"),
+        // lines
+        (":VOLU world BOX 10 10 10 Air\r ", "1 29 NotAscii"),
+        (":P \u{b5} 1", "1 4 NotAscii"),
+        ("\n:P a 1/0\n:P \u{b5} 1", "2 3 DivideByZero"),
     ];
-    for text in texts {
+    for (text, fault) in texts {
+        let output = joined(alloc, "fault ", fault)?;
+        let output = String::from_utf8(joined(alloc, str::from_utf8(&output)?, "\n")?)?;
+        let case = Case {
+            words: &TRACE,
+            text: text.as_bytes(),
+            status: Status::TextFault,
+            output: output.as_str(),
+        };
+        check(&rt, alloc, &case)?;
+    }
+    Ok(())
+}
+
+// What a line or a text may have at most.
+#[test]
+fn lines_and_texts_have_their_limits(rt: HostRuntime) -> Result<(), Fail> {
+    let alloc = rt.alloc();
+    for (length, status, output) in [
+        (65536usize, Status::Clean, "ray 1\n10 30 world\n"),
+        (65537, Status::TextFault, "fault 1 0 LongLine\n"),
+    ] {
+        let mut text = vec![in alloc; b'/'; length]?;
+        text.push(b'\n')?;
+        text.extend_from_slice(WORLD.as_bytes())?;
+        text.extend_from_slice(b":RAY -20 0 0 1 0 0")?;
+        let case = Case {
+            words: &TRACE,
+            text: &text,
+            status,
+            output,
+        };
+        check(&rt, alloc, &case)?;
+    }
+    for (text, status, output) in [
+        (
+            b":P \xb5 1".as_slice(),
+            Status::TextFault,
+            "fault 1 4 NotAscii\n",
+        ),
+        (b"// \xb5\n:VOLU w BOX 1 1 1 Air", Status::Clean, ""),
+    ] {
         let case = Case {
             words: &TRACE,
             text,
-            status: Status::TextFault,
-            output: "fault 0 0 NotBuilt\n",
+            status,
+            output,
+        };
+        check(&rt, alloc, &case)?;
+    }
+    let long = vec![in alloc; b'\n'; 67108865]?;
+    let mut source = MemSource::new(long, 1 << 20, Vec::new(alloc));
+    let mut sink = MemSink::new(alloc, 100, 100, Vec::new(alloc))?;
+    let status = run_on(alloc, &TRACE, &mut source, &mut sink)?;
+    assert!(rt; status == Status::TextFault, "{status:?}");
+    assert!(rt; sink.written() == b"fault 0 0 LongText\n".as_slice());
+    Ok(())
+}
+
+// Expressions, parameters and grids, by hand: 2 cm and 10 mm are 20 and 10 steps of 1 mm, and so on.
+#[test]
+fn lengths_are_steps_of_the_grid(rt: HostRuntime) -> Result<(), Fail> {
+    let alloc = rt.alloc();
+    let all = [
+        (
+            TRACE.as_slice(),
+            ":P a 1\n:P a 2/2\n:VOLU world BOX 10*$a 1.*cm (3+7)*mm Air\n:RAY -2*cm 0 0 1 0 0",
+            "ray 1\n10 30 world\n",
+        ),
+        (TRACE.as_slice(), ":VOLU world BOX 262144 1 1 Air", ""),
+        (
+            &["trace"],
+            ":VOLU world BOX 10 10 10 Air // \u{b5}\n:RAY -20 0 0 .1 0 0",
+            "ray 1\n100 300 world\n",
+        ),
+        (
+            &["trace", "--grid=1/3*mm"],
+            ":P d 10\n:VOLU world BOX $d/3 10 10 Air\n:RAY -20 0 0 1 0 0",
+            "ray 1\n50/3 70/3 world\n",
+        ),
+    ];
+    for (words, text, output) in all {
+        let case = Case {
+            words,
+            text: text.as_bytes(),
+            status: Status::Clean,
+            output,
         };
         check(&rt, alloc, &case)?;
     }
@@ -148,8 +255,12 @@ fn other_words_give_the_usage_line(rt: HostRuntime) -> Result<(), Fail> {
     let none: [&str; 0] = [];
     let all = [
         none.as_slice(),
-        &["trace"],
         &["trace", "--grid=0"],
+        &["trace", "--grid="],
+        &["trace", "--grid=$a"],
+        &["trace", "--grid=-1"],
+        &["trace", "--grid=90*deg"],
+        &["trace", "--grd=1*mm"],
         &["--grid=1*mm", "trace"],
         &["trace", "--grid=1*mm", "--grid=1*mm"],
         &["check", "--brief", "--brief"],

@@ -9,6 +9,7 @@ ghost use Rattle.g4exact.specs.Output.{ray_text, IsTrace, IsTraceOf};
 ghost use Rattle.g4exact.specs.Ends.{Ends, Blames, WritesTrace};
 
 use crate::outcome::Status;
+use gx_expr::Grid;
 use gx_io::{Failed, Sink};
 use gx_navigator::world_span;
 use gx_num::Ray;
@@ -62,11 +63,11 @@ fn print_reports<K: Sink>(input: &Input, sink: &mut K) -> Result<(), Failed>
 }
 
 /// Writes what a text's trace is.
-pub fn trace<K: Sink>(alloc: Global, text: &[u8], sink: &mut K) -> Status
-    ensures output { Ends (IsTraceOf (reading text.now)) (K.written sink.old) (K.written sink.new) result }
+pub fn trace<K: Sink>(alloc: Global, grid: &Grid, text: &[u8], sink: &mut K) -> Status
+    ensures output { Ends (IsTraceOf (reading grid.now text.now)) (K.written sink.old) (K.written sink.new) result }
     ensures blames { (source : ℕ) → Blames source source (K.faults sink.old) (K.faults sink.new) result }
 {
-    match read_text(alloc, text) {
+    match read_text(alloc, grid, text) {
         Ok(input) => match print_reports(&input, sink) {
             Ok(()) => Status::Clean,
             Err(Failed) => Status::WriteFault,

@@ -1,3 +1,10 @@
 pub mod Casts
+pub mod Descent
+pub mod Leaves
 pub mod Names
+pub mod Numbers
+pub mod Parts
 pub mod Quotient
+pub mod Seen
+pub mod Trees
+mod KnownValues

@@ -1,5 +1,5 @@
--- The fractions that values have.
-use Rattle.std.specs.Prelude.{◌≤◌, ◌^◌, unsigned_abs}
+-- The fractions that values and grids have.
+use Rattle.std.specs.Prelude.{◌≤◌, ◌^◌, ◌<ℤ◌, pos, unsigned_abs}
 use Rattle.gx_fraction.specs.Fraction.{Fraction, IsLowest}
 
 -- in lowest terms, with the numerator's magnitude and the denominator at most 2^62
@@ -7,3 +7,8 @@ pub record IsKept (f : Fraction) : Type 0 where
   pub lowest : IsLowest f
   pub num : unsigned_abs f.num ≤ 2 ^ 62
   pub den : f.den ≤ 2 ^ 62
+
+-- a step of a grid is above 0
+pub record IsGrid (f : Fraction) : Type 0 where
+  pub kept : IsKept f
+  pub positive : pos 0 <ℤ f.num

@@ -1,5 +1,9 @@
 pub mod Convert
+pub mod Descent
+pub mod Digits
+pub mod Eval
 pub mod Kept
 pub mod Laws
 pub mod Param
-pub mod Value
+pub mod Tree
+pub mod Worth

@@ -1,38 +1,32 @@
 -- Parameters: names with values, in the order of their definition.
-use Rattle.std.specs.Prelude.{◌≡◌, ℕ, List, [], ◌∷◌, ◌++◌, Option, None, Some, Result, Ok, Err, if◌then◌else◌}
+use Rattle.std.specs.Prelude.{◌≡◌, ◌≢◌, ℕ, List, [], ◌∷◌, ◌++◌, Option, None, Some, Result, Ok, Err, if◌then◌else◌}
 use Rattle.std.specs.Str.{bytes_eq}
-use Rattle.gx_expr.specs.declared.value.Value.{Value}
 use Rattle.gx_expr.specs.declared.fault.ParamFault.{ParamFault}
 use Rattle.gx_expr.specs.declared.fault.ParamFault.TheVariants.{Twice, NoMemory}
+use Rattle.gx_expr.specs.Worth.{Worth}
 
 -- a name with its value
 pub record Param : Type 0 where
   pub name : List ℕ
-  pub value : Value
+  pub value : Worth
 
 -- the value that a name has
-abbrev pub value_of : List Param → List ℕ → Option Value
+abbrev pub value_of : List Param → List ℕ → Option Worth
 value_of [] name = None
 value_of (p ∷ ps) name = if bytes_eq name p.name then Some p.value else value_of ps name
 
--- one fraction, and the same marks
-pub record IsSame (a b : Value) : Type 0 where
-  pub number : a.number ≡ b.number
-  pub length : a.length ≡ b.length
-  pub angle : a.angle ≡ b.angle
-
 -- the name is new and goes last, or it has this value and all stays
-abbrev pub IsDefined : List Param → List ℕ → Value → List Param → Option Value → Type 0
+abbrev pub IsDefined : List Param → List ℕ → Worth → List Param → Option Worth → Type 0
 IsDefined old name value new None = new ≡ old ++ record { name = name; value = value } ∷ []
-IsDefined old name value new (Some before) = IsSame before value × (new ≡ old)
+IsDefined old name value new (Some before) = (before ≡ value) × (new ≡ old)
 
 -- the name has another value
-abbrev pub IsTwice : Value → Option Value → Type 0
+abbrev pub IsTwice : Worth → Option Worth → Type 0
 IsTwice value None = ⊥
-IsTwice value (Some before) = ¬ IsSame before value
+IsTwice value (Some before) = before ≢ value
 
 -- what `old` becomes where a name gets a value
-abbrev pub Defines : List Param → List ℕ → Value → List Param → {T : Type 0} → Result T ParamFault → Type 0
+abbrev pub Defines : List Param → List ℕ → Worth → List Param → {T : Type 0} → Result T ParamFault → Type 0
 Defines old name value new (Ok done) = IsDefined old name value new (value_of old name)
 Defines old name value new (Err Twice) = (new ≡ old) × IsTwice value (value_of old name)
 Defines old name value new (Err NoMemory) = (new ≡ old) × (value_of old name ≡ None)

@@ -1,4 +1,5 @@
-ghost use Rattle.std.specs.Prelude.{◌≡◌, ◌*ℤ◌, ◌<ℤ◌, ◌≤◌, ◌^◌, pos, unsigned_abs};
+ghost use Rattle.std.specs.Prelude.{◌≡◌, ◌*ℤ◌, ◌<ℤ◌, ◌≤◌, ◌^◌, pos, unsigned_abs, IfOk};
+ghost use Rattle.gx_num.specs.declared.vector.TheConstants.{M};
 ghost use Rattle.gx_expr.specs.Convert.{whole_quotient, whole_ratio, steps, count, quarters};
 
 use crate::product::times;
@@ -8,8 +9,10 @@ use gx_num::M;
 /// The number of steps of the grid that a length is. `UnitKind` where the value is an angle, else `OffGrid` where it
 /// is no whole multiple of the step, else `TooFar` where it is more than M steps in magnitude. A value without a mark
 /// is a length in millimetres.
+#[tactic(auto, unfolding(crate::specs::Convert::steps))]
 pub fn to_steps(value: &Value, grid: &Grid) -> Result<i64, StepFault>
-    ensures { result ≡ steps value.now grid.now.size }
+    ensures value { result ≡ steps value.now grid.now }
+    ensures within { IfOk result (λ n. unsigned_abs n ≤ unsigned_abs M) }
 {
     if value.angle() {
         return Err(StepFault::UnitKind);
@@ -55,6 +58,7 @@ pub fn to_quarters(value: &Value) -> Result<Option<u8>, UnitKind>
 }
 
 // How often num/den goes into the value, where that is a whole number.
+#[tactic(auto, using(crate::proofs::Casts::small, crate::proofs::Casts::positive_times, crate::proofs::Casts::own_magnitude))]
 fn ratio(value: &Value, num: i128, den: i128) -> Option<i128>
     requires positive { pos 0 <ℤ num }
     requires num { unsigned_abs num ≤ 2 ^ 62 }

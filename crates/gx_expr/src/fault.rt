@@ -25,12 +25,18 @@ pub enum WholeFault {
 #[derive(Clone, Copy, Debug, PartialEq, Eq)]
 pub struct UnitKind;
 
-/// Why an operation has no value.
+/// Why an expression has no value.
 #[derive(Clone, Copy, Debug, PartialEq, Eq)]
-pub enum ValueFault {
-    /// The divisor is 0.
+pub enum ExprFault {
+    /// It isn't of the grammar, or more than 64 parentheses are open at one place.
+    Syntax,
+    /// A name was given no value.
+    UnknownParam,
+    /// A unit isn't in the table.
+    UnknownUnit,
+    /// A divisor is 0.
     DivideByZero,
-    /// In lowest terms the numerator's magnitude or the denominator is above 2^62.
+    /// A number has too many digits or places, or a result's numerator or denominator is above 2^62.
     TooWide,
 }
 

@@ -1,5 +1,4 @@
 ghost use Rattle.std.specs.Prelude.{◌≡◌, [], ◌↔◌, IsTrue};
-ghost use Rattle.gx_expr.specs.Param.{IsSame};
 
 use crate::{ParamFault, Value};
 use indexmap::IndexMap;
@@ -60,7 +59,7 @@ impl Params {
 }
 
 fn same(a: &Value, b: &Value) -> bool
-    ensures { IsTrue result ↔ IsSame a.now b.now }
+    ensures { IsTrue result ↔ (a.now ≡ b.now) }
 {
     a == b
 }

@@ -1,42 +1,56 @@
-ghost use Rattle.std.specs.Prelude.{◌≡◌, ◌<◌, ◌≤◌, ◌^◌, ◌≢◌, pos, unsigned_abs, ◌+ℤ◌, ◌-ℤ◌, ◌*ℤ◌};
+ghost use Rattle.std.specs.Prelude.{◌≡◌, ◌<◌, ◌≤◌, ◌^◌, ◌≢◌, pos, unsigned_abs, ◌<ℤ◌, ◌+ℤ◌, ◌-ℤ◌, ◌*ℤ◌};
 ghost use Rattle.gx_expr.specs.Kept.{IsKept};
 
-use crate::ValueFault;
+use crate::ExprFault;
 use crate::product::times;
 use gx_fraction::Frac;
+use std::marker::Model;
 
 /// What an expression is worth: a fraction, with a mark where it is a length and one where it is an angle. A length
-/// is in millimetres, an angle in degrees.
+/// is in millimetres, an angle in degrees. Contracts see a `Worth`.
 #[derive(Clone, Copy, Debug, PartialEq, Eq)]
 pub struct Value {
     number: Frac,
     length: bool,
     angle: bool,
-    pub ghost kept: { IsKept number },
+}
+
+impl Model for Value {
+    ghost use Rattle.gx_expr.specs.Kept.{IsKept};
+    ghost use Rattle.gx_expr.specs.Worth.{Worth};
+
+    ghost Value = { Worth };
+
+    ghost view = { λ v. record { number = v.number; length = v.length; angle = v.angle } };
+
+    ghost invariant = { λ v. IsKept v.number };
+
+    ghost inverse = { λ w. record { number = w.number; length = w.length; angle = w.angle } };
 }
 
 // The greatest numerator and denominator, 2^62.
 const WIDEST: u128 = 4611686018427387904;
 
+#[tactic(auto, using(crate::proofs::Casts::small))]
 impl Value {
-    ghost use Rattle.gx_expr.specs.Value.{IsReduced, Answers, Combines, IsSum, IsDifference, IsProduct, IsQuotient, IsOpposite};
+    ghost use Rattle.gx_expr.specs.Worth.{ratio, ratio_of, reduced as reduced_to, sum_of, difference_of, product_of, quotient_of, opposite_of};
 
     /// num/den with these marks. `DivideByZero` where `den` is 0, else `TooWide` where in lowest terms the numerator's
     /// magnitude or the denominator is above 2^62.
-    pub fn new(num: i128, den: i128, length: bool, angle: bool) -> Result<Value, ValueFault>
+    pub fn new(num: i128, den: i128, length: bool, angle: bool) -> Result<Value, ExprFault>
         requires num { unsigned_abs num < 2 ^ 126 }
         requires den { unsigned_abs den < 2 ^ 126 }
-        ensures { Answers num den length angle result }
+        ensures { result ≡ ratio num den length angle }
     {
         if den == 0 {
-            return Err(ValueFault::DivideByZero);
+            return Err(ExprFault::DivideByZero);
         }
         let number = Value::reduced(num, den);
         if number.num().unsigned_abs() > WIDEST {
-            return Err(ValueFault::TooWide);
+            return Err(ExprFault::TooWide);
         }
         if number.den().unsigned_abs() > WIDEST {
-            return Err(ValueFault::TooWide);
+            return Err(ExprFault::TooWide);
         }
         Ok(Value {
             number,
@@ -50,7 +64,7 @@ impl Value {
         requires divisor { den ≢ pos 0 }
         requires num { unsigned_abs num < 2 ^ 126 }
         requires den { unsigned_abs den < 2 ^ 126 }
-        ensures { IsReduced num den result }
+        ensures { result ≡ reduced_to num den }
     {
         if den < 0 {
             Frac::new(-num, -den)
@@ -61,21 +75,25 @@ impl Value {
 
     /// The fraction, without the marks.
     pub fn number(&self) -> Frac
-        ensures { result ≡ self.now.number }
+        ensures value { result ≡ self.now.number }
+        ensures kept { IsKept result }
     {
         self.number
     }
 
     /// The numerator, with the sign.
     pub fn num(&self) -> i128
-        ensures { result ≡ self.now.number.num }
+        ensures value { result ≡ self.now.number.num }
+        ensures bound { unsigned_abs result ≤ 2 ^ 62 }
     {
         self.number.num()
     }
 
     /// The denominator, above 0.
     pub fn den(&self) -> i128
-        ensures { result ≡ pos self.now.number.den }
+        ensures value { result ≡ pos self.now.number.den }
+        ensures positive { pos 0 <ℤ result }
+        ensures bound { unsigned_abs result ≤ 2 ^ 62 }
     {
         self.number.den()
     }
@@ -95,47 +113,51 @@ impl Value {
     }
 
     /// The sum, or `TooWide`.
-    pub fn add(&self, o: &Value) -> Result<Value, ValueFault>
-        ensures { IsSum self.now o.now result }
+    pub fn add(&self, o: &Value) -> Result<Value, ExprFault>
+        ensures { result ≡ sum_of self.now o.now }
     {
         let num = self.across(o) + o.across(self);
         self.combined(o, num, self.whole(o))
     }
 
     /// The difference, or `TooWide`.
-    pub fn sub(&self, o: &Value) -> Result<Value, ValueFault>
-        ensures { IsDifference self.now o.now result }
+    pub fn sub(&self, o: &Value) -> Result<Value, ExprFault>
+        ensures { result ≡ difference_of self.now o.now }
     {
         let num = self.across(o) - o.across(self);
         self.combined(o, num, self.whole(o))
     }
 
     /// The product, or `TooWide`.
-    pub fn mul(&self, o: &Value) -> Result<Value, ValueFault>
-        ensures { IsProduct self.now o.now result }
+    pub fn mul(&self, o: &Value) -> Result<Value, ExprFault>
+        ensures { result ≡ product_of self.now o.now }
     {
         self.combined(o, self.top(o), self.whole(o))
     }
 
     /// The quotient. `DivideByZero` where `o` is 0, else it may be `TooWide`.
-    pub fn div(&self, o: &Value) -> Result<Value, ValueFault>
-        ensures { IsQuotient self.now o.now result }
+    pub fn div(&self, o: &Value) -> Result<Value, ExprFault>
+        ensures { result ≡ quotient_of self.now o.now }
     {
         self.combined(o, self.across(o), o.across(self))
     }
 
     /// The opposite, which is as wide as the value.
-    pub fn neg(&self) -> Result<Value, ValueFault>
-        ensures { IsOpposite self.now result }
+    pub fn neg(&self) -> Value
+        ensures { result ≡ opposite_of self.now }
     {
-        Value::new(-self.num(), self.den(), self.length, self.angle)
+        Value {
+            number: self.number.neg(),
+            length: self.length,
+            angle: self.angle,
+        }
     }
 
     // num/den with a mark where one of the two has it.
-    fn combined(&self, o: &Value, num: i128, den: i128) -> Result<Value, ValueFault>
+    fn combined(&self, o: &Value, num: i128, den: i128) -> Result<Value, ExprFault>
         requires num { unsigned_abs num < 2 ^ 126 }
         requires den { unsigned_abs den < 2 ^ 126 }
-        ensures { Combines num den self.now o.now result }
+        ensures { result ≡ ratio_of num den self.now o.now }
     {
         Value::new(num, den, self.length | o.length, self.angle | o.angle)
     }

@@ -9,7 +9,10 @@ use mir.Val.{SFits}
 use Rattle.std.proofs.lemmas.Int.{ints, to_z-of_z}
 use Rattle.std.proofs.lemmas.Bool.Decides.{nat_tests}
 use Rattle.std.proofs.lemmas.Nat.{mul-le}
-use Rattle.gx_fraction.specs.Fraction.{Fraction, IsEqual, IsKept}
+use Rattle.std.specs.Prelude.{int_div}
+use Rattle.gx_num.specs.Number.{common_divisor}
+use Rattle.gx_num.proofs.Greatest.{common_divisor-is}
+use Rattle.gx_fraction.specs.Fraction.{Fraction, IsEqual, IsKept, lowest}
 use Rattle.gx_fraction.proofs.Gcd.{coprime, crossed, positive_gcd, positive_quotient}
 
 factor_le : (m g n : ℕ) → 0 < g → m * g ≡ n → m ≤ n
@@ -50,6 +53,14 @@ module _ (a den g : ℕ) (positive : 0 < den) (small : a < 2 ^ 126) (few : den <
 pub record Reduces (num : ℤ) (den : ℕ) (f : Fraction) : Type 0 where
   pub kept : IsKept f
   pub equal : IsEqual f (record { num = num; den = den })
+  pub value : f ≡ lowest num den
+
+-- a quotient with the sign of the dividend
+signed_quotient : (m g : ℕ) → 0 < g → int_div (negsuc m) (pos g) ≡ neg_ℤ (pos (suc m / g))
+signed_quotient m g h = refl
+
+value_is : (num z : ℤ) (den g : ℕ) → common_divisor (unsigned_abs num) den ≡ g → z ≡ int_div num (pos g) → record { num = z; den = den / g } ≡ lowest num den
+value_is num z den g e h = rw (e, h) refl
 
 no_less : (n : ℕ) → nat_lt n 0 ≡ false
 no_less n = grind (arith, nat_tests)
@@ -61,10 +72,12 @@ reduced (pos n) z den g p s f is e =
     record {
       kept = kept n den g p s f is z (ap unsigned_abs whole);
       equal = rw whole (ap pos (crossed n den g is));
+      value = value_is (pos n) z den g (common_divisor-is n den g p (positive_gcd n den g p is) is) whole;
     }
 reduced (negsuc n) z den g p s f is e = record {
   kept = kept (suc n) den g p s f is z (ap unsigned_abs e ∙ sign_abs (suc n / g));
   equal = rw e (same_negative (suc n / g) (suc n) (den / g) den (crossed (suc n) den g is));
+  value = value_is (negsuc n) z den g (common_divisor-is (suc n) den g p (positive_gcd (suc n) den g p is) is) (e ∙ sym (signed_quotient n g (positive_gcd (suc n) den g p is)));
 }
 
 -- the same, as the code's casts have it

@@ -1,6 +1,7 @@
 -- Fractions: equality, lowest terms and order, by products crosswise (any text on arithmetic).
-use Rattle.std.specs.Prelude.{◌≡◌, ℕ, ℤ, ◌<◌, ◌^◌, ◌*ℤ◌, pos, unsigned_abs, if◌then◌else◌}
+use Rattle.std.specs.Prelude.{◌≡◌, ℕ, ℤ, ◌<◌, ◌^◌, ◌*ℤ◌, ◌/◌, int_div, pos, neg_ℤ, unsigned_abs, if◌then◌else◌}
 use Rattle.std.specs.Int.{IsGcd}
+use Rattle.gx_num.specs.Number.{common_divisor}
 use Rattle.std.specs.Ordering.{int_cmp, is_lt, is_gt}
 use Rattle.std.specs.declared.cmp.Ordering.{Ordering}
 
@@ -17,6 +18,16 @@ IsEqual a b = a.num *ℤ pos b.den ≡ b.num *ℤ pos a.den
 pub record IsLowest (f : Fraction) : Type 0 where
   pub positive : 0 < f.den
   pub coprime : IsGcd (unsigned_abs f.num) f.den 1
+
+-- num/den in lowest terms
+abbrev pub lowest : ℤ → ℕ → Fraction
+lowest num den = record {
+  num = int_div num (pos (common_divisor (unsigned_abs num) den));
+  den = den / common_divisor (unsigned_abs num) den;
+}
+
+abbrev pub opposite : Fraction → Fraction
+opposite f = record { num = neg_ℤ f.num; den = f.den }
 
 -- a/b against c/d: a*d against c*b
 abbrev pub compare : Fraction → Fraction → Ordering

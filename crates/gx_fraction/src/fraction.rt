@@ -1,5 +1,5 @@
 ghost use Rattle.std.specs.Prelude.{◌≡◌, ◌<◌, ◌^◌, ◌<ℤ◌, ◌*ℤ◌, pos, neg_ℤ, if◌then◌else◌, unsigned_abs};
-ghost use Rattle.gx_fraction.specs.Fraction.{IsLowest, IsEqual, compare, greater, smaller};
+ghost use Rattle.gx_fraction.specs.Fraction.{IsLowest, IsEqual, lowest, opposite, compare, greater, smaller};
 
 use gx_num::{cmp_products, gcd};
 use std::cmp::Ordering;
@@ -31,6 +31,7 @@ impl Frac {
         requires positive { pos 0 <ℤ den }
         requires num { unsigned_abs num < 2 ^ 126 }
         requires den { unsigned_abs den < 2 ^ 126 }
+        ensures value { result ≡ lowest num (unsigned_abs den) }
         ensures lowest { IsLowest result }
         ensures equal { IsEqual result (record { num = num; den = unsigned_abs den }) }
     {
@@ -53,6 +54,16 @@ impl Frac {
         ensures { result ≡ pos self.now.den }
     {
         self.den as i128
+    }
+
+    /// The opposite.
+    pub fn neg(self) -> Frac
+        ensures { result ≡ opposite self }
+    {
+        Frac {
+            num: -self.num,
+            den: self.den,
+        }
     }
 
     /// The order of fractions, for every two of them: no product is formed.

@@ -1,44 +1,14 @@
 -- The common divisor of a vector's components, and the vector divided by it.
-use Rattle.std.proofs.Common.{◌≡◌, ◌⊎◌, inl, inr, ℕ, zero, suc, ◌*◌, ◌≤◌, ◌<◌, ◌%◌, ◌/◌, max, Bool, true, false, cond, ◌&&◌, ◌==◌, ℤ, pos, negsuc, unsigned_abs, int_div, neg_ℤ, refl, sym, ap, ◌∙◌, subst, arith, eqb-true, div-le_self, true≢false}
+use Rattle.std.proofs.Common.{◌≡◌, ◌⊎◌, inl, inr, ℕ, zero, suc, ◌*◌, ◌≤◌, ◌<◌, ◌%◌, ◌/◌, max, Bool, true, false, ◌&&◌, ◌==◌, ℤ, pos, negsuc, unsigned_abs, int_div, neg_ℤ, refl, sym, ap, ◌∙◌, subst, arith, eqb-true, div-le_self, true≢false}
 use Rattle.std.specs.Int.{IsGcd, ◌∣◌}
 use Rattle.std.proofs.lemmas.Nat.Gcd.{le_of_dvd, dvd_trans, dvd-zero, dvd_of_mod-eq-zero, mod-eq-zero_of_dvd}
 use Rattle.std.proofs.Math.Nat.{one-dvd, eq-zero_of_zero-dvd, mul-dvd-mul_left, div-add-mod}
 use Rattle.gx_num.specs.declared.vector.V3.{V3}
+use Rattle.gx_num.specs.Number.{greatest_up_to}
 use Rattle.gx_num.specs.Vector.{IsWithin}
 use borrow.Author.Differences.{ints}
-use Rattle.gx_plane.specs.Plane.{greatest_up_to, divides_all, divisor_of, primitive, IsPrimitive, is_zero}
-
--- ---- the greatest number that passes a test
-passes_step : (test : ℕ → Bool) (n g : ℕ) (b : Bool) → test (suc n) ≡ b → (0 < g → test g ≡ true) → 0 < cond b (suc n) g → test (cond b (suc n) g) ≡ true
-passes_step test n g true e rest h = e
-passes_step test n g false e rest h = rest h
-
-greatest_up_to-passes : (test : ℕ → Bool) (n : ℕ) → 0 < greatest_up_to n test → test (greatest_up_to n test) ≡ true
-greatest_up_to-passes test zero h = absurd (omega arith)
-greatest_up_to-passes test (suc n) h =
-    passes_step test n (greatest_up_to n test) (test (suc n)) refl (greatest_up_to-passes test n) h
-
-le-suc_cases : (d n : ℕ) → d ≤ suc n → (d ≤ n) ⊎ (d ≡ suc n)
-le-suc_cases d n h = grind arith
-
-most_step : (b : Bool) (n d g : ℕ) → (d ≤ n) ⊎ (d ≡ suc n) → (d ≡ suc n → b ≡ true) → (d ≤ n → d ≤ g) → d ≤ cond b (suc n) g
-most_step true n d g (inl h) found rest = omega arith
-most_step true n d g (inr e) found rest = omega arith
-most_step false n d g (inl h) found rest = rest h
-most_step false n d g (inr e) found rest = absurd (true≢false (sym (found e)))
-
-greatest_up_to-most : (test : ℕ → Bool) (n d : ℕ) → d ≤ n → test d ≡ true → d ≤ greatest_up_to n test
-greatest_up_to-most test zero d le passed = le
-greatest_up_to-most test (suc n) d le passed =
-    most_step (test (suc n)) n d (greatest_up_to n test) (le-suc_cases d n le) (λ e. ap test (sym e) ∙ passed) (λ h. greatest_up_to-most test n d h passed)
-
-le_step : (b : Bool) (n g : ℕ) → g ≤ n → cond b (suc n) g ≤ suc n
-le_step true n g h = omega arith
-le_step false n g h = omega arith
-
-greatest_up_to-le : (test : ℕ → Bool) (n : ℕ) → greatest_up_to n test ≤ n
-greatest_up_to-le test zero = omega arith
-greatest_up_to-le test (suc n) = le_step (test (suc n)) n (greatest_up_to n test) (greatest_up_to-le test n)
+use Rattle.gx_num.proofs.Greatest.{greatest_up_to-passes, greatest_up_to-most, greatest_up_to-le}
+use Rattle.gx_plane.specs.Plane.{divides_all, divisor_of, primitive, IsPrimitive, is_zero}
 
 -- ---- the divisor of a vector
 -- d divides each component

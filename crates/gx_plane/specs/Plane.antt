@@ -1,8 +1,9 @@
 -- Planes of whole numbers with primitive normals: the points where n . p = e.
-use Rattle.std.specs.Prelude.{◌≡◌, ℕ, zero, suc, ◌*◌, ◌%◌, ◌≤◌, max, ℤ, pos, ◌-ℤ◌, ◌≤ℤ◌, int_div, unsigned_abs, Bool, ◌&&◌, ◌==◌, if◌then◌else◌, Option, Some, None, List, All}
+use Rattle.std.specs.Prelude.{◌≡◌, ℕ, ◌*◌, ◌%◌, ◌≤◌, max, ℤ, pos, ◌-ℤ◌, ◌≤ℤ◌, int_div, unsigned_abs, Bool, ◌&&◌, ◌==◌, if◌then◌else◌, Option, Some, None, List, All}
 use Rattle.gx_num.specs.declared.vector.V3.{V3}
 use Rattle.gx_num.specs.declared.vector.TheConstants.{M}
 use Rattle.gx_num.specs.Vector.{IsWithin, dot_of}
+use Rattle.gx_num.specs.Number.{greatest_up_to}
 use Rattle.gx_num.specs.Space.{HalfSpace}
 use Rattle.gx_algebra.specs.Vectors.{difference_of, cross_of}
 
@@ -16,11 +17,6 @@ normal_reach = 8 * (reach * reach)
 
 abbrev pub level_reach : ℕ
 level_reach = 24 * (reach * reach * reach)
-
--- the greatest number up to a bound that passes the test; 0 where none does
-abbrev pub greatest_up_to : ℕ → (ℕ → Bool) → ℕ
-greatest_up_to zero test = 0
-greatest_up_to (suc n) test = if test (suc n) then suc n else greatest_up_to n test
 
 abbrev pub divides_all : V3 → ℕ → Bool
 divides_all v d = unsigned_abs v.x % d == 0 && (unsigned_abs v.y % d == 0 && unsigned_abs v.z % d == 0)

@@ -3,8 +3,7 @@ use Rattle.std.specs.Prelude.{ℕ, List, [], ◌++◌, ◌==◌, if◌then◌els
 use Rattle.gx_num.specs.Space.{Parameter}
 use Rattle.gx_path.specs.Report.{Row}
 use Rattle.gx_tree.specs.World.{World}
-use Rattle.gx_reader.specs.declared.fault.FaultName.{FaultName}
-use Rattle.gx_reader.specs.declared.fault.FaultName.TheVariants.{NotBuilt}
+use Rattle.gx_table.specs.Faults.{text_of}
 use Rattle.gx_reader.specs.declared.fault.TextFault.{TextFault}
 
 abbrev pub usage_line : List ℕ
@@ -29,9 +28,6 @@ fraction_text t = decimal t.num ++ slash_of t.den ++ digits_of t.den
 abbrev pub row_text : World → Row → List ℕ
 row_text world row = fraction_text row.from ++ codes " " ++ fraction_text row.to ++ codes " " ++ world.name ++ codes "\n"
 
-abbrev pub name_text : FaultName → List ℕ
-name_text NotBuilt = codes "NotBuilt"
-
 -- `fault LINE WORD NAME`
-abbrev pub fault_text : TextFault → List ℕ
-fault_text fault = codes "fault " ++ decimal fault.line ++ codes " " ++ decimal fault.word ++ codes " " ++ name_text fault.name ++ codes "\n"
+abbrev pub fault_line : TextFault → List ℕ
+fault_line fault = codes "fault " ++ decimal fault.line ++ codes " " ++ decimal fault.word ++ codes " " ++ text_of fault.name ++ codes "\n"

@@ -1,12 +1,13 @@
 ghost use Rattle.std.specs.Prelude.{◌≡◌, [], ◌++◌, codes, unsigned_abs, decimal};
 ghost use Rattle.gx_io.specs.Bytes.{HasCause, Writes};
 ghost use Rattle.gx_path.specs.Span.{row_of};
-ghost use Rattle.gx_print.specs.Texts.{usage_line, ray_head, row_text, fault_text, name_text, slash_of, digits_of};
+ghost use Rattle.gx_print.specs.Texts.{usage_line, ray_head, row_text, fault_line, slash_of, digits_of};
 
 use gx_fraction::Frac;
 use gx_io::{Failed, Sink, write_parts};
 use gx_path::Span;
-use gx_reader::{FaultName, TextFault};
+use gx_reader::TextFault;
+use gx_table::fault_text;
 use gx_tree::Hierarchy;
 use itoa::Buffer;
 
@@ -76,7 +77,7 @@ fn write_row<'a, K: Sink>(
 
 /// Writes the line of a fault of the text.
 pub fn print_fault<K: Sink>(fault: &TextFault, sink: &mut K) -> Result<(), Failed>
-    ensures bytes { Writes (K.written sink.old) (K.written sink.new) (fault_text fault.now) result }
+    ensures bytes { Writes (K.written sink.old) (K.written sink.new) (fault_line fault.now) result }
     ensures cause { HasCause (K.faults sink.old) (K.faults sink.new) result }
 {
     let mut line = Buffer::new();
@@ -89,18 +90,10 @@ pub fn print_fault<K: Sink>(fault: &TextFault, sink: &mut K) -> Result<(), Faile
             b" ",
             word.format(fault.word).as_bytes(),
             b" ",
-            name(fault.name),
+            fault_text(fault.name).as_bytes(),
             b"\n",
         ],
     )
-}
-
-fn name(name: FaultName) -> &'static [u8]
-    ensures { result.now ≡ name_text name }
-{
-    match name {
-        FaultName::NotBuilt => b"NotBuilt",
-    }
 }
 
 fn numerator<'a>(digits: &'a mut Buffer, fraction: &Frac) -> &'a [u8]

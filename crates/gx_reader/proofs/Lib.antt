@@ -1,2 +1,3 @@
-pub mod Completed
+pub mod Fitting
+pub mod Judged
 pub mod Resume

@@ -1,86 +1,141 @@
--- The lines that are read so far: a world that is a box, and rays.
+-- What each line declares, after what the lines before it declared.
 -- Tags and the order of words: the documentation of Geant4's ASCII text geometry format; `:RAY` is this project's own.
-use Rattle.std.specs.Prelude.{ℕ, ◌+◌, ◌-◌, ◌*◌, ℤ, pos, neg_ℤ, unsigned_abs, int_lt, Bool, List, [], ◌∷◌, length, Option, None, Some, ◌==◌, ◌&&◌, not, nat_le, if◌then◌else◌, slice_index_or, codes, fold}
+use Rattle.std.specs.Prelude.{ℕ, ◌+◌, ◌-◌, ℤ, pos, Bool, List, [], ◌∷◌, ◌++◌, length, drop, Option, None, Some, Result, Ok, Err, ◌==◌, ◌&&◌, not, nat_le, if◌then◌else◌, slice_index_or, codes, is_some}
 use Rattle.std.specs.Ordering.{int_eq}
-use Rattle.std.specs.List.{list_all}
 use Rattle.std.specs.Str.{bytes_eq}
-use Rattle.gx_num.specs.declared.vector.TheConstants.{M}
 use Rattle.gx_num.specs.declared.vector.V3.{V3}
 use Rattle.gx_num.specs.declared.ray.Ray.{Ray}
-use Rattle.gx_text.specs.Names.{is_name_of}
+use Rattle.gx_fraction.specs.Fraction.{Fraction}
+use Rattle.gx_table.specs.declared.fault.FaultName.TheVariants.{Twice}
+use Rattle.gx_text.specs.TextLine.{TextLine}
+use Rattle.gx_expr.specs.Worth.{Worth}
+use Rattle.gx_expr.specs.Param.{Param, value_of}
 use Rattle.gx_tree.specs.World.{World}
+use Rattle.gx_reader.specs.declared.fault.WordFault.{WordFault}
+use Rattle.gx_reader.specs.declared.fault.TextFault.{TextFault}
+use Rattle.gx_reader.specs.declared.tag.Tag.{Tag}
+use Rattle.gx_reader.specs.declared.tag.Tag.TheVariants.{Param as ParamTag, Volume as VolumeTag, Ray as RayTag}
+use Rattle.gx_reader.specs.declared.judge.Judge.{Judge}
+use Rattle.gx_reader.specs.declared.judge.Judge.TheVariants.{Name, ParamName, Kind, Expression, Steps, Half}
+use Rattle.gx_reader.specs.declared.judge.Given.{Given}
+use Rattle.gx_reader.specs.declared.judge.Given.TheVariants.{Nothing, Number, Worthy}
+use Rattle.gx_reader.specs.Judge.{verdict, judged_from, not_built}
+
+-- ---- what is declared so far
+
+pub record Declarations : Type 0 where
+  pub params : List Param
+  pub param_lines : ℕ
+  pub world : Option World
+  pub rays : List Ray
+
+abbrev pub nothing_declared : Declarations
+nothing_declared = record { params = []; param_lines = 0; world = None; rays = [] }
+
+-- ---- the words of a line
 
 -- word i of a line, from 1
 abbrev pub word : ℕ → List (List ℕ) → List ℕ
 word i words = slice_index_or words (i - 1) []
 
-abbrev pub is_digit : ℕ → Bool
-is_digit b = nat_le 48 b && nat_le b 57
+abbrev pub tag_of : List ℕ → Option Tag
+tag_of w = if bytes_eq w (codes ":P") then Some ParamTag else if bytes_eq w (codes ":VOLU") then Some VolumeTag else if bytes_eq w (codes ":RAY") then Some RayTag else None
 
--- the value of decimal digits
-abbrev pub value_of : List ℕ → ℕ
-value_of digits = fold (λ value b. 10 * value + (b - 48)) 0 digits
+-- `:P` NAME EXPR
+abbrev pub param_form : List Judge
+param_form = ParamName ∷ Expression ∷ []
 
--- 1 to 6 digits
-abbrev pub is_natural : List ℕ → Bool
-is_natural digits = not (length digits == 0) && nat_le (length digits) 6 && list_all is_digit digits
+-- `:VOLU` NAME `BOX` A B C MATERIAL
+abbrev pub volume_form : List Judge
+volume_form = Name ∷ Kind ∷ Half ∷ Half ∷ Half ∷ Name ∷ []
 
--- a number without a sign
-abbrev pub natural_of : List ℕ → Option ℕ
-natural_of digits = if is_natural digits then Some (value_of digits) else None
+-- `:RAY` X Y Z DX DY DZ
+abbrev pub ray_form : List Judge
+ray_form = Steps ∷ Steps ∷ Steps ∷ Steps ∷ Steps ∷ Steps ∷ []
 
-abbrev pub opposite : Option ℕ → Option ℤ
-opposite None = None
-opposite (Some n) = Some (neg_ℤ (pos n))
+-- the words after the first, judged from the left
+abbrev pub judged : Fraction → Declarations → List Judge → List (List ℕ) → Result (List Given) WordFault
+judged grid d form words = judged_from (verdict d.params grid) 2 form (drop 1 words)
 
-abbrev pub same : Option ℕ → Option ℤ
-same None = None
-same (Some n) = Some (pos n)
+abbrev pub number_in : Given → ℤ
+number_in Nothing = pos 0
+number_in (Number n) = n
+number_in (Worthy worth) = pos 0
 
--- with an optional `-` (45)
-abbrev pub signed_of : List ℕ → Option ℤ
-signed_of [] = None
-signed_of (b ∷ rest) = if b == 45 then opposite (natural_of rest) else same (natural_of (b ∷ rest))
+-- the number that was given at a place after the first word, from 0
+abbrev pub number_at : ℕ → List Given → ℤ
+number_at i givens = number_in (slice_index_or givens i Nothing)
 
--- at most M in magnitude
-abbrev pub if_within : Option ℤ → Option ℤ
-if_within None = None
-if_within (Some z) = if nat_le (unsigned_abs z) (unsigned_abs M) then Some z else None
+abbrev pub vector_at : ℕ → List Given → V3
+vector_at i givens = record { x = number_at i givens; y = number_at (i + 1) givens; z = number_at (i + 2) givens }
 
-abbrev pub number_of : List ℕ → Option ℤ
-number_of w = if_within (signed_of w)
+-- ---- parameters
 
-abbrev pub vector_of : Option ℤ → Option ℤ → Option ℤ → Option V3
-vector_of (Some x) (Some y) (Some z) = Some (record { x = x; y = y; z = z })
-vector_of (Some x) (Some y) None = None
-vector_of (Some x) None z = None
-vector_of None y z = None
+-- equal fractions, and equal marks
+abbrev pub is_same_mark : Bool → Bool → Bool
+is_same_mark a b = if a then b else not b
 
--- three numbers from word i on
-abbrev pub vector_at : ℕ → List (List ℕ) → Option V3
-vector_at i words = vector_of (number_of (word i words)) (number_of (word (i + 1) words)) (number_of (word (i + 2) words))
+abbrev pub is_same_worth : Worth → Worth → Bool
+is_same_worth a b =
+    int_eq a.number.num b.number.num && (a.number.den == b.number.den) && is_same_mark a.length b.length && is_same_mark a.angle b.angle
 
--- `:VOLU` NAME `BOX` A B C MATERIAL, with A, B and C above 0
-abbrev pub is_world_line : List (List ℕ) → Bool
-is_world_line words =
-    (length words == 7) && bytes_eq (word 1 words) (codes ":VOLU") && is_name_of (word 2 words) && bytes_eq (word 3 words) (codes "BOX") && is_name_of (word 7 words)
+abbrev pub with_param : Declarations → List Param → Declarations
+with_param d params = record { params = params; param_lines = d.param_lines + 1; world = d.world; rays = d.rays }
 
-abbrev pub world_with : List (List ℕ) → Option V3 → Option World
-world_with words None = None
-world_with words (Some half) =
-    if int_lt (pos 0) half.x && int_lt (pos 0) half.y && int_lt (pos 0) half.z then Some (record { name = word 2 words; half = half; material = word 7 words }) else None
+-- a name is new, or has this value, or has another one
+abbrev pub param_given : Declarations → List ℕ → Worth → Option Worth → Result Declarations WordFault
+param_given d name worth None = Ok (with_param d (d.params ++ record { name = name; value = worth } ∷ []))
+param_given d name worth (Some before) = if is_same_worth before worth then Ok (with_param d d.params) else Err (record { word = 2; name = Twice })
 
-abbrev pub world_of : List (List ℕ) → Option World
-world_of words = if is_world_line words then world_with words (vector_at 4 words) else None
+abbrev pub param_of : Declarations → List ℕ → Given → Result Declarations WordFault
+param_of d name Nothing = Ok d
+param_of d name (Number n) = Ok d
+param_of d name (Worthy worth) = param_given d name worth (value_of d.params name)
 
--- `:RAY` X Y Z DX DY DZ, with a direction that isn't zero
-abbrev pub is_ray_line : List (List ℕ) → Bool
-is_ray_line words = (length words == 7) && bytes_eq (word 1 words) (codes ":RAY")
+abbrev pub param_declared : Declarations → List (List ℕ) → Result (List Given) WordFault → Result Declarations WordFault
+param_declared d words (Err fault) = Err fault
+param_declared d words (Ok givens) = param_of d (word 2 words) (slice_index_or givens 1 Nothing)
 
-abbrev pub ray_with : Option V3 → Option V3 → Option Ray
-ray_with None d = None
-ray_with (Some o) None = None
-ray_with (Some o) (Some d) = if int_eq d.x (pos 0) && int_eq d.y (pos 0) && int_eq d.z (pos 0) then None else Some (record { o = o; d = d })
+-- ---- the world, and rays
 
-abbrev pub ray_of : List (List ℕ) → Option Ray
-ray_of words = if is_ray_line words then ray_with (vector_at 2 words) (vector_at 5 words) else None
+abbrev pub world_of : List (List ℕ) → List Given → World
+world_of words givens = record { name = word 2 words; half = vector_at 2 givens; material = word 7 words }
+
+abbrev pub world_declared : Declarations → List (List ℕ) → Result (List Given) WordFault → Result Declarations WordFault
+world_declared d words (Err fault) = Err fault
+world_declared d words (Ok givens) = Ok (record { params = d.params; param_lines = d.param_lines; world = Some (world_of words givens); rays = d.rays })
+
+abbrev pub is_zero : V3 → Bool
+is_zero v = int_eq v.x (pos 0) && int_eq v.y (pos 0) && int_eq v.z (pos 0)
+
+abbrev pub with_ray : Declarations → Ray → Declarations
+with_ray d ray = record { params = d.params; param_lines = d.param_lines; world = d.world; rays = d.rays ++ ray ∷ [] }
+
+-- a direction of zeros is a fault at its first word
+abbrev pub ray_declared : Declarations → Result (List Given) WordFault → Result Declarations WordFault
+ray_declared d (Err fault) = Err fault
+ray_declared d (Ok givens) = if is_zero (vector_at 3 givens) then not_built 5 else Ok (with_ray d (record { o = vector_at 0 givens; d = vector_at 3 givens }))
+
+-- ---- lines
+
+-- the most lines of parameters, and of rays
+abbrev pub most : ℕ
+most = 65536
+
+-- Parameters anywhere, one world, and rays after it.
+abbrev pub declared_by : Fraction → Declarations → List (List ℕ) → Option Tag → Result Declarations WordFault
+declared_by grid d words None = not_built 1
+declared_by grid d words (Some ParamTag) =
+    if nat_le most d.param_lines then not_built 1 else param_declared d words (judged grid d param_form words)
+declared_by grid d words (Some VolumeTag) =
+    if is_some d.world then not_built 1 else world_declared d words (judged grid d volume_form words)
+declared_by grid d words (Some RayTag) =
+    if is_some d.world && not (nat_le most (length d.rays)) then ray_declared d (judged grid d ray_form words) else not_built 1
+
+abbrev pub on_line : ℕ → Result Declarations WordFault → Result Declarations TextFault
+on_line number (Err fault) = Err (record { line = number; word = fault.word; name = fault.name })
+on_line number (Ok d) = Ok d
+
+-- what is declared with one more line, or the line's first fault
+abbrev pub declare : Fraction → Declarations → TextLine → Result Declarations TextFault
+declare grid d line = on_line line.number (declared_by grid d line.words (tag_of (word 1 line.words)))

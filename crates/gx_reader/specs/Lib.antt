@@ -1,5 +1,8 @@
 pub mod Form
+pub mod Given
+pub mod Judge
 pub mod Left
 pub mod Rays
 pub mod Reading
+pub mod SoFar
 pub mod State

@@ -1,60 +1,60 @@
--- What a text declares, or its fault.
-use Rattle.std.specs.Prelude.{◌≡◌, ℕ, List, [], ◌∷◌, length, Option, None, Some, Result, Ok, Err, nat_le, nat_lt, if◌then◌else◌}
+-- What a text declares, or its first fault.
+use Rattle.std.specs.Prelude.{◌≡◌, ℕ, ◌+◌, List, [], ◌∷◌, length, Option, None, Some, Result, Ok, Err, nat_lt, if◌then◌else◌}
 use Rattle.gx_num.specs.declared.ray.Ray.{Ray}
+use Rattle.gx_fraction.specs.Fraction.{Fraction}
+use Rattle.gx_table.specs.declared.fault.FaultName.{FaultName}
+use Rattle.gx_table.specs.declared.fault.FaultName.TheVariants.{NotBuilt, LongText, LongLine as LongLineName, NotAscii as NotAsciiName}
 use Rattle.gx_text.specs.declared.lines.LineFault.{LineFault}
+use Rattle.gx_text.specs.declared.lines.LineFault.TheVariants.{LongLine, NotAscii, NoMemory as NoLineMemory}
 use Rattle.gx_text.specs.TextLine.{TextLine}
-use Rattle.gx_text.specs.Lines.{lines_of}
+use Rattle.gx_text.specs.Lines.{cut, ended}
 use Rattle.gx_tree.specs.World.{World}
-use Rattle.gx_reader.specs.declared.fault.FaultName.TheVariants.{NotBuilt}
 use Rattle.gx_reader.specs.declared.fault.TextFault.{TextFault}
 use Rattle.gx_reader.specs.declared.fault.ReadError.{ReadError}
 use Rattle.gx_reader.specs.declared.fault.ReadError.TheVariants.{Text, NoMemory}
 use Rattle.gx_reader.specs.declared.input.Input.{Input}
-use Rattle.gx_reader.specs.Form.{world_of, ray_of}
+use Rattle.gx_reader.specs.Form.{Declarations, nothing_declared, declare}
 
 -- the most bytes of a text, 2^26
 abbrev pub most_bytes : ℕ
 most_bytes = 67108864
 
--- the fault of each text that isn't of the form
-abbrev pub not_built : TextFault
-not_built = record { line = 0; word = 0; name = NotBuilt }
+abbrev pub fault_at : ℕ → ℕ → FaultName → TextFault
+fault_at line word name = record { line = line; word = word; name = name }
 
--- a ray in front of others
-abbrev pub in_front : Option Ray → Option (List Ray) → Option (List Ray)
-in_front None rays = None
-in_front (Some ray) None = None
-in_front (Some ray) (Some rays) = Some (ray ∷ rays)
+-- a line's own fault: its length, at word 0, or a byte that isn't allowed, its column in place of the word
+abbrev pub line_fault : LineFault → TextFault
+line_fault (LongLine line) = fault_at line 0 LongLineName
+line_fault (NotAscii line column) = fault_at line column NotAsciiName
+line_fault NoLineMemory = fault_at 0 0 NotBuilt
 
--- each line declares a ray
-abbrev pub rays_of : List TextLine → Option (List Ray)
-rays_of [] = Some []
-rays_of (line ∷ lines) = in_front (ray_of line.words) (rays_of lines)
+-- a line's own fault, or what it declares; one without a word declares nothing
+abbrev pub with_line : Fraction → Declarations → Result (Option TextLine) LineFault → Result Declarations TextFault
+with_line grid d (Err fault) = Err (line_fault fault)
+with_line grid d (Ok None) = Ok d
+with_line grid d (Ok (Some line)) = declare grid d line
 
--- a world, and at most 65536 rays
-abbrev pub input_of : Option World → Option (List Ray) → Option Input
-input_of None rays = None
-input_of (Some world) None = None
-input_of (Some world) (Some rays) = if nat_le (length rays) 65536 then Some (record { tree = world; rays = rays }) else None
+abbrev pub and_then : {A B : Type 0} → Result A TextFault → (A → Result B TextFault) → Result B TextFault
+and_then (Err fault) next = Err fault
+and_then (Ok a) next = next a
 
--- the first line declares the world, each later one a ray
-abbrev pub declared : List TextLine → Option Input
-declared [] = None
-declared (first ∷ rest) = input_of (world_of first.words) (rays_of rest)
+-- the lines from this number on, in order; the first fault counts
+abbrev pub read_lines : Fraction → Declarations → ℕ → List (List ℕ) → Result Declarations TextFault
+read_lines grid d number [] = Ok d
+read_lines grid d number (line ∷ lines) = and_then (with_line grid d (ended number line)) (λ next. read_lines grid next (number + 1) lines)
 
-abbrev pub declared_by : Result (List TextLine) LineFault → Option Input
-declared_by (Err fault) = None
-declared_by (Ok lines) = declared lines
+-- a text has a world
+abbrev pub input_of : Option World → List Ray → Result Input TextFault
+input_of None rays = Err (fault_at 0 0 NotBuilt)
+input_of (Some world) rays = Ok (record { tree = world; rays = rays })
 
-abbrev pub or_fault : Option Input → Result Input TextFault
-or_fault None = Err not_built
-or_fault (Some input) = Ok input
-
--- the input that a text declares, or its fault
-abbrev pub reading : List ℕ → Result Input TextFault
-reading text = if nat_lt most_bytes (length text) then Err not_built else or_fault (declared_by (lines_of text))
+-- the input that a text declares, or its first fault; lengths are in steps of the grid
+abbrev pub reading : Fraction → List ℕ → Result Input TextFault
+reading grid text =
+    if nat_lt most_bytes (length text) then Err (fault_at 0 0 LongText)
+    else and_then (read_lines grid nothing_declared 1 (cut text)) (λ d. input_of d.world d.rays)
 
 -- the cause of a reader's error: the text's fault; want of memory has none
-abbrev pub IsCause : Result Input TextFault → ReadError → Type 0
+abbrev pub IsCause : {A : Type 0} → Result A TextFault → ReadError → Type 0
 IsCause read (Text fault) = read ≡ Err fault
 IsCause read NoMemory = Unit {0}

@@ -1,35 +1,69 @@
-ghost use Rattle.std.specs.Prelude.{◌≡◌, List, [], ◌∷◌, IfOk, IfErr, OnOk, None, Some};
-ghost use Rattle.gx_text.specs.TextLine.{TextLine};
-ghost use Rattle.gx_reader.specs.State.{completed, IsRefusal};
+ghost use Rattle.std.specs.Prelude.{◌≡◌, ◌≤◌, ◌<◌, IfOk, IfErr, OnOk, Ok, Some, length, slice_index_or};
+ghost use Rattle.gx_reader.specs.Form.{declare, nothing_declared, param_of, judged as judged_by, declared_by, tag_of, word, number_at as number_at_of, vector_at as vector_at_of, is_zero as is_zero_of};
+ghost use Rattle.gx_reader.specs.Given.{AllFit, IsCauseAt};
+ghost use Rattle.gx_reader.specs.Reading.{input_of, IsCause};
 
-use crate::fault::{FaultName, ReadError, TextFault};
-use crate::form::{ray, world};
+use crate::fault::{ReadError, Refusal, TextFault, WordFault};
 use crate::input::{Input, MAX_RAYS, Rays};
+use crate::judge::{Context, Given, Judge};
+use crate::tag::{Tag, tag_from};
+use gx_expr::{Grid, ParamFault, Params, Value};
+use gx_num::{Ray, V3};
+use gx_table::FaultName;
 use gx_text::Line;
 use gx_tree::Hierarchy;
 use std::alloc::Global;
+use std::marker::Model;
 
-/// The fault of each text that isn't of the form.
-pub const NOT_BUILT: TextFault = TextFault {
-    line: 0,
-    word: 0,
-    name: FaultName::NotBuilt,
-};
+/// The most lines of parameters.
+const MAX_PARAMS: u32 = 65536;
 
-/// What the lines so far declare.
+const PARAM_FORM: [Judge; 2] = [Judge::ParamName, Judge::Expression];
+
+const VOLUME_FORM: [Judge; 6] = [
+    Judge::Name,
+    Judge::Kind,
+    Judge::Half,
+    Judge::Half,
+    Judge::Half,
+    Judge::Name,
+];
+
+const RAY_FORM: [Judge; 6] = [Judge::Steps; 6];
+
+/// What the lines so far declare, in steps of a grid.
 #[derive(Drop)]
 pub struct Declared {
     alloc: Global,
+    grid: Grid,
+    params: Params,
+    param_lines: u32,
     world: Option<Hierarchy>,
     rays: Rays,
 }
 
+impl Model for Declared {
+    ghost use Rattle.std.specs.Prelude.{◌≤◌};
+    ghost use Rattle.gx_reader.specs.SoFar.{SoFar};
+
+    ghost Value = { SoFar };
+
+    ghost view = { λ d. record { grid = d.grid; so_far = record { params = d.params; param_lines = d.param_lines; world = d.world; rays = d.rays } } };
+
+    ghost invariant = { λ d. d.param_lines ≤ 65536 };
+}
+
 impl Declared {
-    pub fn new(alloc: Global) -> Declared
-        ensures { result.world ≡ None }
+    /// Nothing is declared yet.
+    pub fn new(alloc: Global, grid: Grid) -> Declared
+        ensures grid { result.grid ≡ grid }
+        ensures nothing { result.so_far ≡ nothing_declared }
     {
         Declared {
             alloc,
+            grid,
+            params: Params::new(alloc),
+            param_lines: 0,
             world: None,
             rays: Rays::new(alloc),
         }
@@ -37,40 +71,194 @@ impl Declared {
 
     /// Takes the next line that has a word.
     pub fn take(&mut self, line: &Line) -> Result<(), ReadError>
-        ensures ok { OnOk result ((lines : List TextLine) → completed self.new.world self.new.rays lines ≡ completed self.old.world self.old.rays (line.now ∷ lines)) }
-        ensures err { IfErr result (λ e. IsRefusal e ((lines : List TextLine) → completed self.old.world self.old.rays (line.now ∷ lines) ≡ None)) }
+        ensures grid { self.new.grid ≡ self.old.grid }
+        ensures ok { OnOk result (declare self.old.grid self.old.so_far line.now ≡ Ok self.new.so_far) }
+        ensures err { IfErr result (IsCause (declare self.old.grid self.old.so_far line.now)) }
+    {
+        match self.declare(line) {
+            Ok(()) => Ok(()),
+            Err(Refusal::At(fault)) => Err(ReadError::Text(TextFault {
+                line: line.number(),
+                word: fault.word,
+                name: fault.name,
+            })),
+            Err(Refusal::NoMemory) => Err(ReadError::NoMemory),
+        }
+    }
+
+    fn declare(&mut self, line: &Line) -> Result<(), Refusal>
+        ensures grid { self.new.grid ≡ self.old.grid }
+        ensures ok { OnOk result (declared_by self.old.grid self.old.so_far line.now.words (tag_of (word 1 line.now.words)) ≡ Ok self.new.so_far) }
+        ensures err { IfErr result (IsCauseAt (declared_by self.old.grid self.old.so_far line.now.words (tag_of (word 1 line.now.words)))) }
+    {
+        match tag_from(word_of(line, 1)) {
+            None => Err(not_built(1)),
+            Some(Tag::Param) => self.param(line),
+            Some(Tag::Volume) => self.volume(line),
+            Some(Tag::Ray) => self.ray(line),
+        }
+    }
+
+    fn param(&mut self, line: &Line) -> Result<(), Refusal>
+        ensures grid { self.new.grid ≡ self.old.grid }
+        ensures ok { OnOk result (declared_by self.old.grid self.old.so_far line.now.words (Some Tag.Param) ≡ Ok self.new.so_far) }
+        ensures err { IfErr result (IsCauseAt (declared_by self.old.grid self.old.so_far line.now.words (Some Tag.Param))) }
+    {
+        if self.param_lines >= MAX_PARAMS {
+            return Err(not_built(1));
+        }
+        let givens = self.judged(&PARAM_FORM, line)?;
+        match given_at(&givens, 1) {
+            Given::Worthy(value) => self.define(word_of(line, 2), value),
+            _ => Ok(()),
+        }
+    }
+
+    fn define(&mut self, name: &[u8], value: Value) -> Result<(), Refusal>
+        requires { self.old.so_far.param_lines < 65536 }
+        ensures grid { self.new.grid ≡ self.old.grid }
+        ensures ok { OnOk result (param_of self.old.so_far name.now (Given.Worthy value) ≡ Ok self.new.so_far) }
+        ensures err { IfErr result (IsCauseAt (param_of self.old.so_far name.now (Given.Worthy value))) }
+    {
+        match self.params.define(name, value) {
+            Ok(()) => {
+                self.param_lines += 1;
+                Ok(())
+            }
+            Err(ParamFault::Twice) => Err(Refusal::At(WordFault {
+                word: 2,
+                name: FaultName::Twice,
+            })),
+            Err(ParamFault::NoMemory) => Err(Refusal::NoMemory),
+        }
+    }
+
+    fn volume(&mut self, line: &Line) -> Result<(), Refusal>
+        ensures grid { self.new.grid ≡ self.old.grid }
+        ensures ok { OnOk result (declared_by self.old.grid self.old.so_far line.now.words (Some Tag.Volume) ≡ Ok self.new.so_far) }
+        ensures err { IfErr result (IsCauseAt (declared_by self.old.grid self.old.so_far line.now.words (Some Tag.Volume))) }
+    {
+        if self.world.is_some() {
+            return Err(not_built(1));
+        }
+        let givens = self.judged(&VOLUME_FORM, line)?;
+        let half = vector_at(&givens, 2);
+        let name = Vec::from_slice(self.alloc, word_of(line, 2))?;
+        let material = Vec::from_slice(self.alloc, word_of(line, 7))?;
+        self.world = Some(Hierarchy::new(name, half, material));
+        Ok(())
+    }
+
+    fn ray(&mut self, line: &Line) -> Result<(), Refusal>
+        ensures grid { self.new.grid ≡ self.old.grid }
+        ensures ok { OnOk result (declared_by self.old.grid self.old.so_far line.now.words (Some Tag.Ray) ≡ Ok self.new.so_far) }
+        ensures err { IfErr result (IsCauseAt (declared_by self.old.grid self.old.so_far line.now.words (Some Tag.Ray))) }
     {
         if self.world.is_none() {
-            let Some(first) = world(self.alloc, line)? else {
-                return Err(ReadError::Text(NOT_BUILT));
-            };
-            self.world = Some(first);
-            self.rays = Rays::new(self.alloc);
-            return Ok(());
+            return Err(not_built(1));
         }
-        let Some(next) = ray(line) else {
-            return Err(ReadError::Text(NOT_BUILT));
-        };
         if self.rays.count() as usize >= MAX_RAYS {
-            return Err(ReadError::Text(NOT_BUILT));
+            return Err(not_built(1));
         }
-        self.rays.push(next)?;
+        let givens = self.judged(&RAY_FORM, line)?;
+        let o = vector_at(&givens, 0);
+        let d = vector_at(&givens, 3);
+        if is_zero(d) {
+            return Err(not_built(5));
+        }
+        self.rays.push(Ray { o, d })?;
         Ok(())
+    }
+
+    // The words after the first, judged from the left.
+    fn judged(&self, form: &[Judge], line: &Line) -> Result<Vec<Given>, Refusal>
+        requires { length form.now ≤ 16 }
+        ensures ok { IfOk result (λ givens. judged_by self.now.grid self.now.so_far form.now line.now.words ≡ Ok givens.items) }
+        ensures fits { IfOk result (λ givens. AllFit form.now givens.items) }
+        ensures err { IfErr result (IsCauseAt (judged_by self.now.grid self.now.so_far form.now line.now.words)) }
+    {
+        let context = Context {
+            params: &self.params,
+            grid: &self.grid,
+        };
+        context.judged(self.alloc, form, line)
     }
 
     /// The input, where there is a world.
     pub fn finish(self) -> Result<Input, ReadError>
-        ensures ok { IfOk result (λ input. completed self.world self.rays [] ≡ Some input) }
-        ensures err { IfErr result (λ e. IsRefusal e (completed self.world self.rays [] ≡ None)) }
+        ensures ok { IfOk result (λ input. input_of self.so_far.world self.so_far.rays ≡ Ok input) }
+        ensures err { IfErr result (IsCause (input_of self.so_far.world self.so_far.rays)) }
     {
         let Declared {
             alloc: _,
+            grid: _,
+            params: _,
+            param_lines: _,
             world,
             rays,
         } = self;
         match world {
             Some(tree) => Ok(Input { tree, rays }),
-            None => Err(ReadError::Text(NOT_BUILT)),
+            None => Err(ReadError::Text(TextFault {
+                line: 0,
+                word: 0,
+                name: FaultName::NotBuilt,
+            })),
         }
     }
+}
+
+// Word i of a line, from 1; nothing where it isn't there.
+fn word_of(line: &Line, i: u32) -> &[u8]
+    requires { 1 ≤ i }
+    ensures { result.now ≡ word i line.now.words }
+{
+    if i > line.count() {
+        return b"";
+    }
+    line.word(i)
+}
+
+fn not_built(word: u32) -> Refusal
+    ensures { result ≡ Refusal.At (record { word = word; name = FaultName.NotBuilt }) }
+{
+    Refusal::At(WordFault {
+        word,
+        name: FaultName::NotBuilt,
+    })
+}
+
+fn given_at(givens: &[Given], i: usize) -> Given
+    ensures { result ≡ slice_index_or givens.now i Given.Nothing }
+{
+    match givens.get(i) {
+        Some(given) => *given,
+        None => Given::Nothing,
+    }
+}
+
+fn number_at(givens: &[Given], i: usize) -> i64
+    ensures { result ≡ number_at_of i givens.now }
+{
+    match given_at(givens, i) {
+        Given::Number(number) => number,
+        _ => 0,
+    }
+}
+
+fn vector_at(givens: &[Given], i: usize) -> V3
+    requires { i ≤ 10 }
+    ensures { result ≡ vector_at_of i givens.now }
+{
+    V3 {
+        x: number_at(givens, i),
+        y: number_at(givens, i + 1),
+        z: number_at(givens, i + 2),
+    }
+}
+
+fn is_zero(v: V3) -> bool
+    ensures { result ≡ is_zero_of v }
+{
+    v.x == 0 && v.y == 0 && v.z == 0
 }

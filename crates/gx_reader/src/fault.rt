@@ -1,13 +1,16 @@
+use gx_table::FaultName;
 use std::alloc::{AllocError, AllocFailed};
 use thiserror::Error;
 
-/// The name of a fault of a text.
+/// A fault of a line, at a word of it, from 1.
 #[derive(Clone, Copy, Debug, PartialEq, Eq)]
-pub enum FaultName {
-    NotBuilt,
+pub struct WordFault {
+    pub word: u32,
+    pub name: FaultName,
 }
 
-/// A fault of a text, at a word of a line; line 0 and word 0 stand for the whole text.
+/// A fault of a text, at a word of a line, both from 1. Word 0 stands for the whole line, line 0 for the whole text;
+/// where a byte isn't allowed, its column stands in place of the word.
 #[derive(Clone, Copy, Debug, PartialEq, Eq)]
 pub struct TextFault {
     pub line: u32,
@@ -43,5 +46,45 @@ impl<T: Drop> From<AllocFailed<T>> for ReadError {
 
     fn from(_: AllocFailed<T>) -> Self {
         ReadError::NoMemory
+    }
+}
+
+/// Why a line declares nothing.
+#[derive(Clone, Copy, Debug, PartialEq, Eq)]
+pub enum Refusal {
+    At(WordFault),
+    NoMemory,
+}
+
+impl From<AllocError> for Refusal {
+    ghost use Rattle.std.specs.Prelude.{◌≡◌};
+    ghost use Rattle.gx_reader.specs.declared.fault.Refusal.TheVariants.{NoMemory};
+
+    ghost from_gives = { λ _ e. e ≡ NoMemory };
+
+    fn from(_: AllocError) -> Self {
+        Refusal::NoMemory
+    }
+}
+
+impl<T: Drop> From<AllocFailed<T>> for Refusal {
+    ghost use Rattle.std.specs.Prelude.{◌≡◌};
+    ghost use Rattle.gx_reader.specs.declared.fault.Refusal.TheVariants.{NoMemory};
+
+    ghost from_gives = { λ _ e. e ≡ NoMemory };
+
+    fn from(_: AllocFailed<T>) -> Self {
+        Refusal::NoMemory
+    }
+}
+
+impl From<WordFault> for Refusal {
+    ghost use Rattle.std.specs.Prelude.{◌≡◌};
+    ghost use Rattle.gx_reader.specs.declared.fault.Refusal.TheVariants.{At};
+
+    ghost from_gives = { λ fault e. e ≡ At fault };
+
+    fn from(fault: WordFault) -> Self {
+        Refusal::At(fault)
     }
 }

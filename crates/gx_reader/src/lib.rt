@@ -1,12 +1,13 @@
-//! What a text declares: a world and rays, or its fault.
+//! What a text declares: a world and rays, or its first fault.
 #![tactic(auto)]
 
 mod declared;
 mod fault;
-mod form;
 mod input;
+mod judge;
 mod read;
+mod tag;
 
-pub use fault::{FaultName, ReadError, TextFault};
+pub use fault::{ReadError, TextFault};
 pub use input::{Input, Rays};
 pub use read::{MAX_TEXT, read_text};

@@ -1,11 +1,14 @@
-ghost use Rattle.std.specs.Prelude.{◌≡◌, ℕ, ◌+◌, ◌-◌, ◌^◌, ◌<◌, ◌≤◌, List, [], ◌∷◌, IfOk, IfErr, OnOk};
-ghost use Rattle.gx_reader.specs.Reading.{reading, IsCause};
-ghost use Rattle.gx_reader.specs.State.{Open, IsRefusal, with_line};
+ghost use Rattle.std.specs.Prelude.{◌≡◌, ℕ, ◌+◌, ◌-◌, ◌^◌, ◌<◌, ◌≤◌, List, [], ◌∷◌, IfOk, IfErr, OnOk, Ok};
+ghost use Rattle.gx_reader.specs.Form.{nothing_declared};
+ghost use Rattle.gx_reader.specs.Reading.{reading, with_line, and_then, input_of, IsCause};
+ghost use Rattle.gx_reader.specs.State.{Open};
 ghost use Rattle.gx_reader.specs.Left.{left_by};
 
-use crate::declared::{Declared, NOT_BUILT};
-use crate::fault::ReadError;
+use crate::declared::Declared;
+use crate::fault::{ReadError, TextFault};
 use crate::input::Input;
+use gx_expr::Grid;
+use gx_table::FaultName;
 use gx_text::{Line, LineFault, Lines};
 use std::alloc::Global;
 
@@ -21,10 +24,18 @@ impl From<LineFault> for ReadError {
     fn from(fault: LineFault) -> Self {
         match fault {
             LineFault::NoMemory => ReadError::NoMemory,
-            LineFault::LongLine { line: _ } => ReadError::Text(NOT_BUILT),
-            LineFault::NotAscii { line: _, column: _ } => ReadError::Text(NOT_BUILT),
+            LineFault::LongLine { line } => text_fault(line, 0, FaultName::LongLine),
+            LineFault::NotAscii { line, column } => {
+                text_fault(line, column, FaultName::NotAscii)
+            }
         }
     }
+}
+
+fn text_fault(line: u32, word: u32, name: FaultName) -> ReadError
+    ensures { result ≡ ReadError.Text (record { line = line; word = word; name = name }) }
+{
+    ReadError::Text(TextFault { line, word, name })
 }
 
 /// A text that is read byte by byte.
@@ -35,15 +46,16 @@ struct Reading {
 }
 
 impl Reading {
-    fn new(alloc: Global) -> Reading
+    fn new(alloc: Global, grid: Grid) -> Reading
         ensures number { result.lines.number ≡ 1 }
         ensures line { result.lines.line ≡ [] }
         ensures kept { Open result.lines }
-        ensures world { result.declared.world ≡ None }
+        ensures grid { result.declared.grid ≡ grid }
+        ensures nothing { result.declared.so_far ≡ nothing_declared }
     {
         Reading {
             lines: Lines::new(alloc),
-            declared: Declared::new(alloc),
+            declared: Declared::new(alloc, grid),
         }
     }
 
@@ -53,7 +65,7 @@ impl Reading {
         ensures ok { OnOk result ((rest : List ℕ) → left_by self.new rest ≡ left_by self.old (byte ∷ rest)) }
         ensures kept { OnOk result (Open self.new.lines) }
         ensures number { OnOk result (self.new.lines.number ≤ self.old.lines.number + 1) }
-        ensures err { IfErr result (λ e. IsRefusal e ((rest : List ℕ) → left_by self.old (byte ∷ rest) ≡ None)) }
+        ensures err { IfErr result (λ e. (rest : List ℕ) → IsCause (left_by self.old (byte ∷ rest)) e) }
     {
         match self.lines.push(byte)? {
             Some(line) => self.declared.take(&line),
@@ -63,8 +75,8 @@ impl Reading {
 
     fn finish(self) -> Result<Input, ReadError>
         requires { Open self.lines }
-        ensures ok { IfOk result (λ input. left_by self [] ≡ Some input) }
-        ensures err { IfErr result (λ e. IsRefusal e (left_by self [] ≡ None)) }
+        ensures ok { IfOk result (λ input. and_then (left_by self []) (λ d. input_of d.world d.rays) ≡ Ok input) }
+        ensures err { IfErr result (IsCause (and_then (left_by self []) (λ d. input_of d.world d.rays))) }
     {
         let Reading { lines, declared } = self;
         finish(lines.finish()?, declared)
@@ -72,8 +84,8 @@ impl Reading {
 }
 
 fn finish(line: Option<Line>, mut declared: Declared) -> Result<Input, ReadError>
-    ensures ok { IfOk result (λ input. with_line declared.world declared.rays line (Ok []) ≡ Some input) }
-    ensures err { IfErr result (λ e. IsRefusal e (with_line declared.world declared.rays line (Ok []) ≡ None)) }
+    ensures ok { IfOk result (λ input. and_then (with_line declared.grid declared.so_far (Ok line)) (λ d. input_of d.world d.rays) ≡ Ok input) }
+    ensures err { IfErr result (IsCause (and_then (with_line declared.grid declared.so_far (Ok line)) (λ d. input_of d.world d.rays))) }
 {
     if let Some(line) = line {
         declared.take(&line)?;
@@ -81,15 +93,15 @@ fn finish(line: Option<Line>, mut declared: Declared) -> Result<Input, ReadError
     declared.finish()
 }
 
-/// Reads a whole text: the input that it declares, or its fault.
-pub fn read_text(alloc: Global, text: &[u8]) -> Result<Input, ReadError>
-    ensures ok { IfOk result (λ input. reading text.now ≡ Ok input) }
-    ensures err { IfErr result (IsCause (reading text.now)) }
+/// Reads a whole text, with lengths in steps of the grid: the input that it declares, or its first fault.
+pub fn read_text(alloc: Global, grid: &Grid, text: &[u8]) -> Result<Input, ReadError>
+    ensures ok { IfOk result (λ input. reading grid.now text.now ≡ Ok input) }
+    ensures err { IfErr result (IsCause (reading grid.now text.now)) }
 {
     if text.len() > MAX_TEXT {
-        return Err(ReadError::Text(NOT_BUILT));
+        return Err(text_fault(0, 0, FaultName::LongText));
     }
-    let mut reading = Reading::new(alloc);
+    let mut reading = Reading::new(alloc, *grid);
     for byte in text {
         reading.take(*byte)?;
     }

@@ -62,19 +62,3 @@ ended_with number line None = Ok (line_of number (words_of line))
 
 abbrev pub ended : ℕ → List ℕ → Result (Option TextLine) LineFault
 ended number line = ended_with number line (fault_of number line)
-
--- one more line at the front, if it has a word
-abbrev pub onto : Result (Option TextLine) LineFault → Result (List TextLine) LineFault → Result (List TextLine) LineFault
-onto (Err fault) rest = Err fault
-onto (Ok None) rest = rest
-onto (Ok (Some line)) (Err fault) = Err fault
-onto (Ok (Some line)) (Ok rest) = Ok (line ∷ rest)
-
--- the lines from this number on, or the first fault
-abbrev pub lines_from : ℕ → List (List ℕ) → Result (List TextLine) LineFault
-lines_from number [] = Ok []
-lines_from number (line ∷ rest) = onto (ended number line) (lines_from (number + 1) rest)
-
--- the lines of a text that have a word, numbered from 1, or the first line's fault
-abbrev pub lines_of : List ℕ → Result (List TextLine) LineFault
-lines_of text = lines_from 1 (cut text)

@@ -31,3 +31,6 @@ returns-clause-lowest c = (made c).kept.lowest
 
 pub returns-clause-equal : goal.returns-clause-equal
 returns-clause-equal c = (made c).equal
+
+pub returns-clause-value : goal.returns-clause-value
+returns-clause-value c = (made c).value

@@ -1,0 +1,61 @@
+-- How a number is told from its digits. No public contract stands on this file.
+use Rattle.std.specs.Prelude.{◌≡◌, ℕ, ◌+◌, ◌-◌, ◌*◌, ◌<◌, ◌≤◌, ◌^◌, ◌==◌, ℤ, pos, neg_ℤ, min, Bool, true, false, nat_le, nat_lt, if◌then◌else◌, List, [], length, drop, Result, Err}
+use Rattle.gx_expr.specs.declared.digits.Digits.{Digits}
+use Rattle.gx_expr.specs.declared.exponent.Power.{Power}
+use Rattle.gx_expr.specs.declared.exponent.TheConstants.{MOST}
+use Rattle.gx_expr.specs.declared.fault.ExprFault.{ExprFault}
+use Rattle.gx_expr.specs.declared.fault.ExprFault.TheVariants.{TooWide}
+use Rattle.gx_expr.specs.Eval.{zeros_before, zeros_after}
+use Rattle.gx_expr.specs.Tree.{value_of_digits, exponent_at, signed_exponent, Read}
+use Rattle.gx_expr.specs.Worth.{Worth, ratio}
+use Rattle.std.specs.Prelude.{take}
+
+-- the digits without the zeros before the first other one
+abbrev pub shorter : List ℕ → List ℕ
+shorter digits = drop (zeros_before digits) digits
+
+-- the digits without the zeros at the end
+abbrev pub front_of : List ℕ → List ℕ
+front_of digits = take (length digits - zeros_after digits) digits
+
+-- what is kept of digits that begin with no zero
+pub record IsSeen (digits : List ℕ) (d : Digits) : Type 0 where
+  pub zeros : d.zeros ≡ zeros_after digits
+  pub count : d.count + d.zeros ≡ length digits
+  pub none : d.count ≡ 0 → digits ≡ []
+  pub whole : value_of_digits digits ≡ value_of_digits (front_of digits) * 10 ^ d.zeros
+  pub some : 0 < d.count → 0 < value_of_digits (front_of digits)
+  pub value : d.count ≤ 18 → d.value ≡ value_of_digits (front_of digits)
+
+-- n * 10^k and n / 10^k, for k up to 18
+abbrev pub raised_to : ℕ → ℕ → Result Worth ExprFault
+raised_to n k = if nat_lt 18 k then Err TooWide else ratio (pos (n * 10 ^ k)) (pos 1) false false
+
+abbrev pub lowered_to : ℕ → ℕ → Result Worth ExprFault
+lowered_to n k = if nat_lt 18 k then Err TooWide else ratio (pos n) (pos (10 ^ k)) false false
+
+-- n * 10^(up - down)
+abbrev pub placed : ℕ → ℕ → ℕ → Result Worth ExprFault
+placed n up down = if nat_le down up then raised_to n (up - down) else lowered_to n (down - up)
+
+abbrev pub worth_seen : Digits → ℕ → ℕ → Result Worth ExprFault
+worth_seen d up down =
+    if d.count == 0 then ratio (pos 0) (pos 1) false false
+    else if nat_lt 18 d.count then Err TooWide
+    else placed d.value (up + d.zeros) down
+
+abbrev pub power_of : Bool → ℕ → ℤ
+power_of true n = neg_ℤ (pos n)
+power_of false n = pos n
+
+-- the mark of an exponent was passed, or there is no exponent
+abbrev pub HasMark : List ℕ → List ℕ → Bool → Type 0
+HasMark old new true = exponent_at old ≡ signed_exponent old new
+HasMark old new false = exponent_at old ≡ record { what = pos 0; rest = old }
+
+-- an exponent, whose magnitude is held up to MOST
+pub record IsPower (read : Read ℤ) (power : Power) (new : List ℕ) : Type 0 where
+  pub magnitude : ℕ
+  pub what : read.what ≡ power_of power.negative magnitude
+  pub size : power.size ≡ min MOST magnitude
+  pub rest : new ≡ read.rest

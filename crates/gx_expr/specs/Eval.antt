@@ -1,0 +1,95 @@
+-- What expressions are worth, or their first fault in evaluation: operands before their operator, left before right.
+-- Units: the documentation of Geant4's ASCII text geometry format; which ones, and every width, are this project's own.
+use Rattle.std.specs.Prelude.{ℕ, suc, zero, ◌-◌, ◌*◌, ◌^◌, ℤ, pos, negsuc, ◌+ℤ◌, ◌==◌, ◌||◌, nat_lt, true, false, if◌then◌else◌, codes, List, [], ◌∷◌, length, take, drop, reverse, Option, None, Some, Result, Ok, Err}
+use Rattle.std.specs.List.{prefix_len}
+use Rattle.gx_table.specs.Table.{Row, number_in}
+use Rattle.gx_expr.specs.declared.fault.ExprFault.{ExprFault}
+use Rattle.gx_expr.specs.declared.fault.ExprFault.TheVariants.{Syntax, UnknownParam, UnknownUnit, TooWide}
+use Rattle.gx_expr.specs.Param.{Param, value_of}
+use Rattle.gx_expr.specs.Tree.{Decimal, value_of_digits, Tree, number, name, unit, opposite, sum, difference, product, quotient, tree_of}
+use Rattle.gx_expr.specs.Worth.{Worth, ratio, sum_of, difference_of, product_of, quotient_of, opposite_of}
+
+-- ---- numbers
+
+abbrev pub zeros_before : List ℕ → ℕ
+zeros_before digits = prefix_len (λ b. b == 48) digits
+
+abbrev pub zeros_after : List ℕ → ℕ
+zeros_after digits = zeros_before (reverse digits)
+
+-- the digits without the zeros before the first other digit and after the last
+abbrev pub inner_digits : List ℕ → List ℕ
+inner_digits digits = let shorter = drop (zeros_before digits) digits in take (length shorter - zeros_after shorter) shorter
+
+-- n * 10^k
+abbrev pub shifted : ℕ → ℤ → Result Worth ExprFault
+shifted n (pos k) = ratio (pos (n * 10 ^ k)) (pos 1) false false
+shifted n (negsuc k) = ratio (pos n) (pos (10 ^ suc k)) false false
+
+-- no more than 18 digits, and no power of ten below -18
+abbrev pub if_short : List ℕ → ℤ → Result Worth ExprFault
+if_short inner (pos k) = if nat_lt 18 (length inner) then Err TooWide else shifted (value_of_digits inner) (pos k)
+if_short inner (negsuc k) = if nat_lt 18 (length inner) || nat_lt 18 (suc k) then Err TooWide else shifted (value_of_digits inner) (negsuc k)
+
+-- a number that isn't 0 is its inner digits times a power of ten
+abbrev pub worth_of_decimal : Decimal → Result Worth ExprFault
+worth_of_decimal d =
+    if length (inner_digits d.digits) == 0 then ratio (pos 0) (pos 1) false false else if_short (inner_digits d.digits) (d.scale +ℤ pos (zeros_after d.digits))
+
+-- ---- units
+
+abbrev pub row : List ℕ → ℕ → Row
+row text unit_number = record { text = text; number = unit_number }
+
+abbrev pub units : List Row
+units =
+    row (codes "mm") 0 ∷ row (codes "millimeter") 0 ∷ row (codes "cm") 1 ∷ row (codes "centimeter") 1 ∷ row (codes "m") 2 ∷ row (codes "meter") 2
+    ∷ row (codes "km") 3 ∷ row (codes "kilometer") 3 ∷ row (codes "um") 4 ∷ row (codes "micrometer") 4 ∷ row (codes "nm") 5 ∷ row (codes "nanometer") 5
+    ∷ row (codes "angstrom") 6 ∷ row (codes "deg") 7 ∷ row (codes "degree") 7 ∷ []
+
+abbrev pub length_of : ℤ → ℕ → Worth
+length_of num den = record { number = record { num = num; den = den }; length = true; angle = false }
+
+-- a length in millimetres, or an angle in degrees
+abbrev pub unit_of : ℕ → Worth
+unit_of zero = length_of (pos 1) 1
+unit_of (suc zero) = length_of (pos 10) 1
+unit_of (suc (suc zero)) = length_of (pos 1000) 1
+unit_of (suc (suc (suc zero))) = length_of (pos 1000000) 1
+unit_of (suc (suc (suc (suc zero)))) = length_of (pos 1) 1000
+unit_of (suc (suc (suc (suc (suc zero))))) = length_of (pos 1) 1000000
+unit_of (suc (suc (suc (suc (suc (suc zero)))))) = length_of (pos 1) 10000000
+unit_of (suc (suc (suc (suc (suc (suc (suc n))))))) = record { number = record { num = pos 1; den = 1 }; length = false; angle = true }
+
+abbrev pub found : {A B : Type 0} → ExprFault → (A → B) → Option A → Result B ExprFault
+found fault f None = Err fault
+found fault f (Some a) = Ok (f a)
+
+-- ---- trees
+
+abbrev pub of_one : (Worth → Worth) → Result Worth ExprFault → Result Worth ExprFault
+of_one operation (Err fault) = Err fault
+of_one operation (Ok a) = Ok (operation a)
+
+abbrev pub of_two : (Worth → Worth → Result Worth ExprFault) → Result Worth ExprFault → Result Worth ExprFault → Result Worth ExprFault
+of_two operation (Err fault) b = Err fault
+of_two operation (Ok a) (Err fault) = Err fault
+of_two operation (Ok a) (Ok b) = operation a b
+
+abbrev pub worth_of : List Param → Tree → Result Worth ExprFault
+worth_of params (number d) = worth_of_decimal d
+worth_of params (name n) = found UnknownParam (λ w. w) (value_of params n)
+worth_of params (unit u) = found UnknownUnit unit_of (number_in units u)
+worth_of params (opposite a) = of_one opposite_of (worth_of params a)
+worth_of params (sum a b) = of_two sum_of (worth_of params a) (worth_of params b)
+worth_of params (difference a b) = of_two difference_of (worth_of params a) (worth_of params b)
+worth_of params (product a b) = of_two product_of (worth_of params a) (worth_of params b)
+worth_of params (quotient a b) = of_two quotient_of (worth_of params a) (worth_of params b)
+
+abbrev pub worth_of_tree : List Param → Option Tree → Result Worth ExprFault
+worth_of_tree params None = Err Syntax
+worth_of_tree params (Some tree) = worth_of params tree
+
+-- what a word is worth: no tree is a fault before all others
+unfoldable pub evaluated : List Param → List ℕ → Result Worth ExprFault
+evaluated params word = worth_of_tree params (tree_of word)

@@ -1,0 +1,69 @@
+ghost use Rattle.std.specs.Prelude.{◌≡◌, List, ℕ, min, pos, length, EachIndex, slice_index, IsTrue};
+ghost use Rattle.gx_expr.specs.Tree.{exponent_at, signed_exponent, exponent_from, value_of_digits, is_digit, run_of};
+ghost use Rattle.gx_expr.specs.Digits.{IsPower, power_of, HasMark};
+
+use crate::text::{Class, Text};
+
+// A power of ten: its sign, and its magnitude up to `MOST`.
+#[derive(Clone, Copy)]
+pub struct Power {
+    pub negative: bool,
+    pub size: u128,
+}
+
+// The greatest magnitude that is told from others, 2^100: the length of a text is far below.
+pub const MOST: u128 = 1267650600228229401496703205376;
+
+// The exponent that is next, if there is one.
+pub fn exponent(text: &mut Text) -> Power
+    ensures { IsPower (exponent_at text.old) result text.new }
+{
+    let mut ahead = Text::new(text.left());
+    let none = Power {
+        negative: false,
+        size: 0,
+    };
+    if !mark(&mut ahead) {
+        return none;
+    }
+    let negative = minus(&mut ahead);
+    let digits = ahead.run(Class::Digit);
+    if digits.is_empty() {
+        return none;
+    }
+    *text = ahead;
+    Power {
+        negative,
+        size: size_of(digits),
+    }
+}
+
+// Passes `e` or `E`.
+fn mark(text: &mut Text) -> bool
+    ensures { HasMark text.old text.new result }
+{
+    text.take(b'e') || text.take(b'E')
+}
+
+// Passes the sign, if there is one: whether it is `-`.
+fn minus(text: &mut Text) -> bool
+    ensures { (s : List ℕ) → signed_exponent s text.old ≡ exponent_from (power_of result) s (run_of is_digit text.new) }
+{
+    if text.take(b'-') {
+        return true;
+    }
+    text.take(b'+');
+    false
+}
+
+// The magnitude that digits make, up to `MOST`.
+fn size_of(digits: &[u8]) -> u128
+    requires { EachIndex digits.now (λ k. IsTrue (is_digit (slice_index digits.now k))) }
+    ensures { result ≡ min MOST (value_of_digits digits.now) }
+{
+    let mut size: u128 = 0;
+    for digit in digits {
+        size = MOST.min(10 * size + (digit - 48) as u128);
+    }
+    size
+}

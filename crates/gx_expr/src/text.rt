@@ -1,0 +1,120 @@
+ghost use Rattle.std.specs.Prelude.{◌≡◌, ◌≤◌, length};
+ghost use Rattle.std.specs.List.{prefix_len};
+ghost use Rattle.gx_expr.specs.Tree.{is_digit, is_letter, is_name_byte, run_of, begins_decimal};
+ghost use Rattle.gx_expr.specs.Descent.{test_of, Takes};
+
+use std::marker::Model;
+
+// A kind of bytes that stand together in a text.
+#[derive(Clone, Copy)]
+pub enum Class {
+    Digit,
+    Letter,
+    NameByte,
+}
+
+impl Class {
+    fn has(self, byte: u8) -> bool
+        ensures { result ≡ test_of self byte }
+    {
+        match self {
+            Class::Digit => digit(byte),
+            Class::Letter => letter(byte),
+            Class::NameByte => letter(byte) || digit(byte) || byte == b'_',
+        }
+    }
+}
+
+fn digit(byte: u8) -> bool
+    ensures { result ≡ is_digit byte }
+{
+    byte >= 48 && byte <= 57
+}
+
+fn letter(byte: u8) -> bool
+    ensures { result ≡ is_letter byte }
+{
+    (byte >= 65 && byte <= 90) || (byte >= 97 && byte <= 122)
+}
+
+// The bytes of a word that are left to read.
+#[derive(Drop)]
+pub struct Text<'a> {
+    left: &'a [u8],
+}
+
+impl<'a> Model for Text<'a> {
+    ghost use Rattle.std.specs.Prelude.{ℕ, List};
+
+    ghost Value = { List ℕ };
+
+    ghost view = { λ t. t.left.now };
+}
+
+impl<'a> Text<'a> {
+    ghost use Rattle.std.specs.Prelude.{◌↔◌, [], IsTrue, EachIndex, slice_index};
+
+    // The whole word.
+    pub fn new(left: &'a [u8]) -> Text<'a>
+        ensures { result ≡ left.now }
+    {
+        Text { left }
+    }
+
+    // The bytes, for a reading that may be undone.
+    pub fn left(&self) -> &'a [u8]
+        ensures { result.now ≡ self.now }
+    {
+        self.left
+    }
+
+    pub fn is_empty(&self) -> bool
+        ensures { IsTrue result ↔ (self.now ≡ []) }
+    {
+        self.left.is_empty()
+    }
+
+    // Whether the byte is the first one, which is passed then.
+    pub fn take(&mut self, byte: u8) -> bool
+        ensures { Takes byte self.old self.new result }
+    {
+        match self.left {
+            [first, rest @ ..] if *first == byte => {
+                self.left = rest;
+                true
+            }
+            _ => false,
+        }
+    }
+
+    // Whether a number is next.
+    pub fn begins_number(&self) -> bool
+        ensures { result ≡ begins_decimal self.now }
+    {
+        match self.left {
+            [first, second, ..] => digit(*first) || (*first == b'.' && digit(*second)),
+            [first] => digit(*first),
+            [] => false,
+        }
+    }
+
+    // The longest run of such bytes, which is passed.
+    #[tactic(auto, using(crate::proofs::Parts::run_all))]
+    pub fn run(&mut self, class: Class) -> &'a [u8]
+        ensures what { result.now ≡ (run_of (test_of class) self.old).what }
+        ensures rest { self.new ≡ (run_of (test_of class) self.old).rest }
+        ensures all { EachIndex result.now (λ k. IsTrue (test_of class (slice_index result.now k))) }
+    {
+        let (run, rest) = self.left.split_at(run_len(self.left, class));
+        self.left = rest;
+        run
+    }
+}
+
+// How many bytes of the kind are in front.
+fn run_len(text: &[u8], class: Class) -> usize
+    ensures value { result ≡ prefix_len (test_of class) text.now }
+    ensures within { result ≤ length text.now }
+{
+    text.iter().take_while(|byte| class.has(**byte)).count()
+}
