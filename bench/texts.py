@@ -1,17 +1,23 @@
-"""Writes the texts of the measure into a folder: `rays`, `comments`, and `numbers` of four lengths."""
+"""Writes the texts of the measure into a folder: `rays` in a world of each kind, `comments`, and `numbers` of four lengths."""
 import random
 import sys
 
 folder = sys.argv[1]
-random.seed(1)
-with open(f"{folder}/rays", "w") as text:
-    text.write(":VOLU world BOX 1000 2000 3000 Air\n")
-    for ray in range(65536):
-        reach = 999 if ray % 2 == 0 else 99999
-        numbers = [random.randint(-reach, reach) for _ in range(6)]
-        if not any(numbers[3:]):
-            numbers[3] = 1
-        text.write(":RAY " + " ".join(map(str, numbers)) + "\n")
+worlds = {
+    "box": "BOX 1000 2000 3000",
+    "trd": "TRD 500 1500 1000 3000 3000",
+    "tet": "TET -3000 -3000 -3000 6000 0 0 0 6000 0 0 0 6000",
+}
+for kind, solid in worlds.items():
+    random.seed(1)
+    with open(f"{folder}/rays-{kind}", "w") as text:
+        text.write(f":VOLU world {solid} Air\n")
+        for ray in range(65536):
+            reach = 999 if ray % 2 == 0 else 99999
+            numbers = [random.randint(-reach, reach) for _ in range(6)]
+            if not any(numbers[3:]):
+                numbers[3] = 1
+            text.write(":RAY " + " ".join(map(str, numbers)) + "\n")
 
 size = 1 << 26
 head = ":VOLU world BOX 10 10 10 Air\n:RAY -20 0 0 1 0 0\n"

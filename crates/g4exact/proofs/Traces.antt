@@ -5,7 +5,8 @@ use Rattle.std.specs.List.{AllByRecursion}
 use Rattle.std.proofs.lemmas.List.{drop_more, drop_all}
 use Rattle.std.proofs.lemmas.Option.{slice_get_within, get_or_from_slice_get}
 use Rattle.gx_num.specs.declared.ray.Ray.{Ray}
-use Rattle.gx_navigator.proofs.Ends.{report_of}
+use Rattle.gx_navigator.proofs.Worlds.{report_of}
+use Rattle.gx_shapes.specs.Shape.{IsShape}
 use Rattle.gx_io.specs.Bytes.{with_after, AppendsFront}
 use Rattle.gx_io.proofs.Joined.{with_after-twice, with_after-nothing, front-of_first, front-of_second}
 use Rattle.gx_path.specs.Report.{Row, IsReport}
@@ -14,11 +15,11 @@ use Rattle.gx_tree.specs.World.{World, place_on}
 use Rattle.g4exact.specs.Output.{ray_text, IsTrace}
 
 -- each of the rays has a report
-traced_all : (world : World) (number : ℕ) (rays : List Ray) → AllByRecursion IsKept rays → (bytes : List ℕ) × IsTrace world number rays bytes
-traced_all world number [] kept = ([], refl)
-traced_all world number (ray ∷ rays) kept =
-    let report = report_of world ray kept.0.moves in
-    let rest = traced_all world (number + 1) rays kept.1 in
+traced_all : (world : World) → IsShape world.solid → (number : ℕ) (rays : List Ray) → AllByRecursion IsKept rays → (bytes : List ℕ) × IsTrace world number rays bytes
+traced_all world shape number [] kept = ([], refl)
+traced_all world shape number (ray ∷ rays) kept =
+    let report = report_of world ray shape kept.0.moves in
+    let rest = traced_all world shape (number + 1) rays kept.1 in
     (ray_text world number report.0 ++ rest.0, (report.0, rest.0, report.1, rest.1, refl))
 
 kept_after : (i : ℕ) (rays : List Ray) → AllByRecursion IsKept rays → AllByRecursion IsKept (drop i rays)
@@ -53,10 +54,10 @@ module _ (world : World) (rays : List Ray) (i : ℕ) (old mid new : Option (List
         (so_far.goes_on (ray_text world (i + 1) rows ++ rest) (next world rays i ray at rows report rest trace));
   }
 
-  pub traced_front : AllByRecursion IsKept rays → AppendsFront mid new (ray_text world (i + 1) rows)
+  pub traced_front : IsShape world.solid → AllByRecursion IsKept rays → AppendsFront mid new (ray_text world (i + 1) rows)
       → (bytes : List ℕ) × IsTrace world 1 rays bytes × AppendsFront old new bytes
-  traced_front kept stopped =
-      let rest = traced_all world (i + 1 + 1) (drop (i + 1) rays) (kept_after (i + 1) rays kept) in
+  traced_front shape kept stopped =
+      let rest = traced_all world shape (i + 1 + 1) (drop (i + 1) rays) (kept_after (i + 1) rays kept) in
       let tail = ray_text world (i + 1) rows ++ rest.0 in (
         so_far.written ++ tail,
         so_far.goes_on tail (next world rays i ray at rows report rest.0 rest.1),

@@ -114,7 +114,7 @@ fn each_text_has_its_first_fault(rt: HostRuntime) -> Result<(), Fail> {
         ("// nothing", "0 0 NotBuilt"),
         (":P a 1", "0 0 NotBuilt"),
         (
-            ":VOLU world TRD 10 10 10 Air\n:RAY -20 0 0 1 0 0",
+            ":VOLU world CONS 10 10 10 Air\n:RAY -20 0 0 1 0 0",
             "1 3 NotBuilt",
         ),
         (":VOLU world box 10 10 10 Air", "1 3 NotBuilt"),
@@ -129,8 +129,7 @@ fn each_text_has_its_first_fault(rt: HostRuntime) -> Result<(), Fail> {
         ("\n:volu world BOX 10 10 10 Air", "2 1 NotBuilt"),
         (":VOLU world BOX 10 10 10", "1 7 NotBuilt"),
         (":VOLU world BOX 10 10 10 Air more", "1 8 NotBuilt"),
-        (":VOLU world BOX 10 0 10 Air", "1 5 NotBuilt"),
-        (":VOLU world BOX 10 -1 10 Air", "1 5 NotBuilt"),
+        (":VOLU world TRD 1 1 1 1 1", "1 9 NotBuilt"),
         (":VOLU wo$ld BOX 1/0 10 10 Air", "1 2 NotBuilt"),
         (":VOLU world BOX 10 10 10 :Air", "1 7 NotBuilt"),
         (":VOLU w BOX 1 1 1 Air\n:RAY 1 1 1 0 -0 0", "2 5 NotBuilt"),
@@ -147,6 +146,14 @@ fn each_text_has_its_first_fault(rt: HostRuntime) -> Result<(), Fail> {
         (":VOLU w BOX 1 1 3*deg Air", "1 6 UnitKind"),
         (":P d 10\n:VOLU world BOX $d/3 10 10 Air", "2 4 OffGrid"),
         (":VOLU world BOX 262145 1 1 Air", "1 4 TooFar"),
+        // solids
+        (":VOLU v BOX 1 0 1 Air", "1 5 Half"),
+        (":VOLU v BOX 10 -1 10 Air", "1 5 Half"),
+        (":VOLU v BOX 0 x 1 Air", "1 4 Half"),
+        (":VOLU v TRD 0 0 1 1 5 Air", "1 5 Half"),
+        (":VOLU v TRD 1 0 1 1 0 :Air", "1 8 Half"),
+        (":VOLU v TET 0 0 0 1 0 0 0 1 0 1 1 0 Air", "1 3 Flat"),
+        (":VOLU v TET 0 0 0 1 0 0 0 1 0 1 1 0", "1 16 NotBuilt"),
         // parameters
         (":P a 1\n:P a 2", "2 2 Twice"),
         (":P a 1\n:P a 1*mm", "2 2 Twice"),
@@ -211,6 +218,41 @@ fn lines_and_texts_have_their_limits(rt: HostRuntime) -> Result<(), Fail> {
     let status = run_on(alloc, &TRACE, &mut source, &mut sink)?;
     assert!(rt; status == Status::TextFault, "{status:?}");
     assert!(rt; sink.written() == b"fault 0 0 LongText\n".as_slice());
+    Ok(())
+}
+
+// Solids with other faces than a box's. The half-width of the first at z is 6 + z/20; the points of the others have
+// x, y and z above 0 and x + y + z below 4.
+#[test]
+fn a_world_is_traced_by_its_faces(rt: HostRuntime) -> Result<(), Fail> {
+    let alloc = rt.alloc();
+    let texts = [
+        (
+            ":VOLU world TRD 4 8 4 8 40 Air\n:RAY 5 0 -50 0 0 1\n:RAY -50 0 0 1 0 0\n:RAY 9 0 0 0 0 1",
+            "ray 1\n30 90 world\nray 2\n44 56 world\nray 3\n",
+        ),
+        (
+            ":VOLU t TRD 0 8 8 0 8 Air\n:RAY 1 0 -20 0 0 1",
+            "ray 1\n14 28 t\n",
+        ),
+        (
+            ":VOLU t TET 0 0 0 4 0 0 0 4 0 0 0 4 Air\n:RAY 1 1 -5 0 0 1\n:RAY 1 1 0 1 0 0\n:RAY -1 -1 -1 2 2 2",
+            "ray 1\n5 7 t\nray 2\nray 3\n1/2 7/6 t\n",
+        ),
+        (
+            ":VOLU t TET 0 0 0 0 4 0 4 0 0 0 0 4 Air\n:RAY 1 1 -5 0 0 1",
+            "ray 1\n5 7 t\n",
+        ),
+    ];
+    for (text, output) in texts {
+        let case = Case {
+            words: &TRACE,
+            text: text.as_bytes(),
+            status: Status::Clean,
+            output,
+        };
+        check(&rt, alloc, &case)?;
+    }
     Ok(())
 }
 

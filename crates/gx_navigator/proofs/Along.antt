@@ -23,24 +23,17 @@ strict_along h ray t =
 
 -- what a limit asks is that inequality
 meets_less : (slope level : ℤ) (t : Parameter) → IsPositive t → Meets (limit_of slope level) t → (pos t.num *ℤ slope) <ℤ (pos t.den *ℤ level)
-meets_less (pos zero) (pos zero) t h m = absurd m
 meets_less (pos zero) (pos (suc level)) t h m = omega (arith, ints)
-meets_less (pos zero) (negsuc level) t h m = absurd m
-meets_less (pos (suc slope)) (pos zero) t h m = absurd m
 meets_less (pos (suc slope)) (pos (suc level)) t h m = omega (arith, ints)
-meets_less (pos (suc slope)) (negsuc level) t h m = absurd m
 meets_less (negsuc slope) (pos level) t h m = omega (arith, ints)
 meets_less (negsuc slope) (negsuc level) t h m = omega (arith, ints)
+meets_less slope level t h m = absurd m
 
 less_meets : (slope level : ℤ) (t : Parameter) → IsPositive t → (pos t.num *ℤ slope) <ℤ (pos t.den *ℤ level) → Meets (limit_of slope level) t
-less_meets (pos zero) (pos zero) t h m = omega (arith, ints)
 less_meets (pos zero) (pos (suc level)) t h m = tt
-less_meets (pos zero) (negsuc level) t h m = omega (arith, ints)
-less_meets (pos (suc slope)) (pos zero) t h m = omega (arith, ints)
 less_meets (pos (suc slope)) (pos (suc level)) t h m = omega (arith, ints)
-less_meets (pos (suc slope)) (negsuc level) t h m = omega (arith, ints)
 less_meets (negsuc slope) (pos level) t h m = tt
-less_meets (negsuc slope) (negsuc level) t h m = omega (arith, ints)
+less_meets slope level t h m = omega (arith, ints)
 
 -- the parameter meets each limit
 abbrev pub AllMeet : List Limit → Parameter → Type 0
@@ -59,12 +52,12 @@ both_true false b e = (e, absurd (cc))
 
 pub inside_meets : (solid : List HalfSpace) (ray : Ray) (t : Parameter) → IsPositive t → is_inside solid (point_of_ray ray t) ≡ true → AllMeet (limits solid ray) t
 inside_meets [] ray t h e = tt
-inside_meets (bound ∷ solid) ray t h e =
+inside_meets (face ∷ solid) ray t h e =
     let parts = both_true _ _ e in
-    (less_meets _ _ t h ((strict_along bound ray t).0 (lt_true _ _ parts.0)), inside_meets solid ray t h parts.1)
+    (less_meets _ _ t h ((strict_along face ray t).0 (lt_true _ _ parts.0)), inside_meets solid ray t h parts.1)
 
 pub meets_inside : (solid : List HalfSpace) (ray : Ray) (t : Parameter) → IsPositive t → AllMeet (limits solid ray) t → is_inside solid (point_of_ray ray t) ≡ true
 meets_inside [] ray t h m = refl
-meets_inside (bound ∷ solid) ray t h m =
-    let here = true_lt _ _ ((strict_along bound ray t).1 (meets_less (dot_of bound.n ray.d) (bound.e -ℤ dot_of bound.n ray.o) t h m.0)) in
+meets_inside (face ∷ solid) ray t h m =
+    let here = true_lt _ _ ((strict_along face ray t).1 (meets_less (dot_of face.n ray.d) (face.e -ℤ dot_of face.n ray.o) t h m.0)) in
     rw here (meets_inside solid ray t h m.1)

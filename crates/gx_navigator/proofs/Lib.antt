@@ -3,3 +3,4 @@ pub mod Ends
 pub mod Narrow
 pub mod Ratio
 pub mod Reports
+pub mod Worlds

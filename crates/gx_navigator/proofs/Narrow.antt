@@ -1,21 +1,21 @@
 -- What is left of an interval that limits narrow: just the parameters in it that meet them all.
-use Rattle.std.proofs.Common.{◌≡◌, ℕ, ◌<◌, refl, subst, arith, true, false, Bool, cond, List, [], ◌∷◌, Option, None, Some}
+use Rattle.std.proofs.Common.{◌≡◌, ℕ, ℤ, pos, negsuc, zero, suc, ◌<◌, refl, subst, arith, true, false, Bool, cond, List, [], ◌∷◌, Option, None, Some}
 use Rattle.std.proofs.lemmas.Bool.Decides.{nat_tests}
-use Rattle.gx_num.specs.Space.{Parameter}
+use Rattle.gx_num.specs.declared.ray.Ray.{Ray}
+use Rattle.gx_num.specs.Space.{HalfSpace, Parameter}
 use Rattle.gx_path.specs.Report.{IsBelow, IsUpTo, IsPositive}
 use Rattle.gx_path.proofs.Order.{lt_lt, lt_le, le_lt}
 use Rattle.gx_navigator.specs.declared.limit.Limit.{Limit}
 use Rattle.gx_navigator.specs.declared.limit.Limit.TheVariants.{Never, Always, Below, Above}
-use Rattle.gx_navigator.specs.Limit.{Meets}
-use Rattle.gx_navigator.specs.Interval.{Interval, below, narrowed, narrowed_all}
+use Rattle.gx_navigator.specs.Limit.{limit_of, limits, Meets}
+use Rattle.gx_navigator.specs.Interval.{Interval, whole, below, narrowed, narrowed_all}
 use Rattle.gx_navigator.proofs.Along.{AllMeet}
 
 -- the fractions of a limit are above 0
 abbrev pub IsLimit : Limit → Type 0
-IsLimit Never = Unit {0}
-IsLimit Always = Unit {0}
 IsLimit (Below num den) = (0 < num) × (0 < den)
 IsLimit (Above num den) = (0 < num) × (0 < den)
+IsLimit limit = Unit {0}
 
 abbrev pub AllLimits : List Limit → Type 0
 AllLimits [] = Unit {0}
@@ -31,7 +31,7 @@ pub record Proper (i : Interval) : Type 0 where
 below_true : (s t : Parameter) → below s t ≡ true → IsBelow s t
 below_true s t e = grind (arith, nat_tests)
 
-pub below_false : (s t : Parameter) → below s t ≡ false → IsUpTo t s
+below_false : (s t : Parameter) → below s t ≡ false → IsUpTo t s
 below_false s t e = grind (arith, nat_tests)
 
 -- an interval that is narrowed to these parameters
@@ -43,7 +43,7 @@ pub record Narrows (i : Interval) (asks : Parameter → Type 0) (j : Interval) :
 unchanged : (i : Interval) (asks : Parameter → Type 0) → Proper i → ((t : Parameter) → IsPositive t → Between i t → asks t) → Narrows i asks i
 unchanged i asks p always = record { proper = p; into = λ t h b. (b, always t h b); onto = λ t h b a. b }
 
-pub some_same : {A : Type 0} (a b : A) → Some a ≡ Some b → a ≡ b
+some_same : {A : Type 0} (a b : A) → Some a ≡ Some b → a ≡ b
 some_same a b e = cc
 
 module _ (i : Interval) (p : Proper i) (num den : ℕ) (up : 0 < num) (d : 0 < den) where
@@ -77,7 +77,7 @@ module _ (i : Interval) (p : Proper i) (num den : ℕ) (up : 0 < num) (d : 0 < d
       let more = below_false i.from at e in
       subst (Narrows i (Meets (Above num den))) (some_same i j is) (unchanged i _ p (λ t h b. le_lt at i.from t d more b.0))
 
-pub narrows : (i : Interval) → Proper i → (limit : Limit) → IsLimit limit → (j : Interval) → narrowed i limit ≡ Some j → Narrows i (Meets limit) j
+narrows : (i : Interval) → Proper i → (limit : Limit) → IsLimit limit → (j : Interval) → narrowed i limit ≡ Some j → Narrows i (Meets limit) j
 narrows i p Never l j e = absurd cc
 narrows i p Always l j e = subst (Narrows i (Meets Always)) (some_same i j e) (unchanged i _ p (λ t h b. tt))
 narrows i p (Below num den) l j e = narrows_below i p num den l.0 l.1 _ refl j e
@@ -97,7 +97,7 @@ joined i k j one more p q = record {
   onto = λ t h b a. q.onto t h (p.onto t h b a.0) a.1;
 }
 
-pub narrows_all : (i : Interval) → Proper i → (limits : List Limit) → AllLimits limits → (j : Interval) → narrowed_all (Some i) limits ≡ Some j → Narrows i (AllMeet limits) j
+narrows_all : (i : Interval) → Proper i → (limits : List Limit) → AllLimits limits → (j : Interval) → narrowed_all (Some i) limits ≡ Some j → Narrows i (AllMeet limits) j
 narrows_all i p [] l j e = subst (Narrows i (AllMeet [])) (some_same i j e) (unchanged i _ p (λ t h b. tt))
 narrows_all i p (limit ∷ more) l j e = go (narrowed i limit) refl e (λ k q is. narrows_all k q more l.1 j is)
   where
@@ -106,7 +106,7 @@ narrows_all i p (limit ∷ more) l j e = go (narrowed i limit) refl e (λ k q is
     go None is last rest = absurd cc
     go (Some k) is last rest = let first = narrows i p limit l.0 k is in joined i k j (Meets limit) (AllMeet more) first (rest k first.proper last)
 
-pub none_meets : (i : Interval) → Proper i → (limits : List Limit) → AllLimits limits → narrowed_all (Some i) limits ≡ None
+none_meets : (i : Interval) → Proper i → (limits : List Limit) → AllLimits limits → narrowed_all (Some i) limits ≡ None
     → (t : Parameter) → IsPositive t → Between i t → AllMeet limits t → ⊥
 none_meets i p [] l e t h b m = cc
 none_meets i p (limit ∷ more) l e t h b m = go (narrowed i limit) refl e (λ k q is inside. none_meets k q more l.1 is t h inside m.1)
@@ -115,3 +115,29 @@ none_meets i p (limit ∷ more) l e t h b m = go (narrowed i limit) refl e (λ k
         → ((k : Interval) → Proper k → narrowed_all (Some k) more ≡ None → Between k t → ⊥) → ⊥
     go None is last rest = never_none i limit t is m.0
     go (Some k) is last rest = let first = narrows i p limit l.0 k is in rest k first.proper last (first.onto t h b m.0)
+
+-- ---- the limits of a solid
+whole_proper : Proper whole
+whole_proper = record { positive = omega arith; above = omega arith }
+
+pub in_whole : (t : Parameter) → IsPositive t → Between whole t
+in_whole t h = (omega (arith, h.0), omega (arith, h.1))
+
+limit_is : (slope level : ℤ) → IsLimit (limit_of slope level)
+limit_is (pos zero) (pos (suc level)) = tt
+limit_is (pos (suc slope)) (pos (suc level)) = (omega arith, omega arith)
+limit_is (negsuc slope) (negsuc level) = (omega arith, omega arith)
+limit_is slope level = tt
+
+limits_are : (solid : List HalfSpace) (ray : Ray) → AllLimits (limits solid ray)
+limits_are [] ray = tt
+limits_are (h ∷ solid) ray = (limit_is _ _, limits_are solid ray)
+
+module _ (solid : List HalfSpace) (ray : Ray) where
+  -- the whole is narrowed to what meets them all
+  pub narrows_whole : (i : Interval) → narrowed_all (Some whole) (limits solid ray) ≡ Some i → Narrows whole (AllMeet (limits solid ray)) i
+  narrows_whole = narrows_all whole whole_proper (limits solid ray) (limits_are solid ray)
+
+  -- or to nothing, and no parameter meets them all
+  pub nowhere : narrowed_all (Some whole) (limits solid ray) ≡ None → (t : Parameter) → IsPositive t → AllMeet (limits solid ray) t → ⊥
+  nowhere e t h = none_meets whole whole_proper (limits solid ray) (limits_are solid ray) e t h (in_whole t h)

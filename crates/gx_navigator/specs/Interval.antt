@@ -1,8 +1,8 @@
 -- How limits narrow an interval of parameters. No public contract stands on this file.
 use Rattle.std.specs.Prelude.{◌≡◌, ◌*◌, ◌<◌, ◌^◌, Bool, nat_lt, List, [], ◌∷◌, Option, None, Some, if◌then◌else◌, pos}
 use Rattle.gx_num.specs.Space.{Parameter}
-use Rattle.gx_path.specs.Report.{Row, IsBelow, IsUpTo, IsReduced}
-use Rattle.gx_path.specs.Span.{parameter_of, row_of}
+use Rattle.gx_path.specs.Report.{IsBelow, IsUpTo, IsReduced}
+use Rattle.gx_path.specs.Span.{parameter_of}
 use Rattle.gx_path.specs.declared.span.Span.{Span}
 use Rattle.gx_fraction.specs.Fraction.{Fraction}
 use Rattle.gx_navigator.specs.declared.limit.Limit.{Limit}
@@ -39,25 +39,13 @@ narrowed_all None limits = None
 narrowed_all (Some i) [] = Some i
 narrowed_all (Some i) (limit ∷ limits) = narrowed_all (narrowed i limit) limits
 
--- one number
-abbrev pub IsSame : Parameter → Parameter → Type 0
-IsSame s t = s.num * t.den ≡ t.num * s.den
-
--- a fraction that isn't negative, in lowest terms
+-- the same number as a fraction that isn't negative, in lowest terms
 pub record IsRatio (t : Parameter) (f : Fraction) : Type 0 where
   pub sign : f.num ≡ pos (parameter_of f).num
   pub reduced : IsReduced (parameter_of f)
-  pub same : IsSame (parameter_of f) t
+  pub same : (parameter_of f).num * t.den ≡ t.num * (parameter_of f).den
 
--- a row with the interval's ends in lowest terms
-pub record IsRowOf (i : Interval) (row : Row) : Type 0 where
-  pub below : IsBelow i.from i.to
-  pub from : IsReduced row.from
-  pub to : IsReduced row.to
-  pub same_from : IsSame row.from i.from
-  pub same_to : IsSame row.to i.to
-
--- the interval has no parameter, or the span has its ends
+-- the interval has no parameter, or the span has its ends in lowest terms
 abbrev pub IsSpanOf : Interval → Option Span → Type 0
 IsSpanOf i None = IsUpTo i.to i.from
-IsSpanOf i (Some span) = IsRowOf i (row_of span [])
+IsSpanOf i (Some span) = IsBelow i.from i.to × IsRatio i.from span.from × IsRatio i.to span.to

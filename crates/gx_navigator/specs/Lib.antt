@@ -1,3 +1,4 @@
+pub mod Bounded
 pub mod Interval
 pub mod Laws
 pub mod Limit

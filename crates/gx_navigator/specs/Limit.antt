@@ -1,5 +1,5 @@
 -- What one inequality asks of a parameter along a ray. No public contract stands on this file.
-use Rattle.std.specs.Prelude.{ℤ, ◌-ℤ◌, ◌<◌, ◌^◌, pos, negsuc, zero, suc, List, [], ◌∷◌}
+use Rattle.std.specs.Prelude.{ℤ, ◌-ℤ◌, ◌<◌, ◌^◌, pos, negsuc, zero, suc, List, map}
 use Rattle.gx_num.specs.declared.ray.Ray.{Ray}
 use Rattle.gx_num.specs.Vector.{dot_of}
 use Rattle.gx_num.specs.Space.{HalfSpace, Parameter}
@@ -9,16 +9,13 @@ use Rattle.gx_navigator.specs.declared.limit.Limit.TheVariants.{Never, Always, B
 
 -- t * slope < level, for t above 0
 abbrev pub limit_of : ℤ → ℤ → Limit
-limit_of (pos zero) (pos zero) = Never
 limit_of (pos zero) (pos (suc level)) = Always
-limit_of (pos zero) (negsuc level) = Never
-limit_of (pos (suc slope)) (pos zero) = Never
 limit_of (pos (suc slope)) (pos (suc level)) = Below (suc level) (suc slope)
-limit_of (pos (suc slope)) (negsuc level) = Never
 limit_of (negsuc slope) (pos level) = Always
 limit_of (negsuc slope) (negsuc level) = Above (suc level) (suc slope)
+limit_of slope level = Never
 
--- the point of the ray is strictly within the bound where t * (n . d) < e - n . o
+-- the point of the ray is strictly within the half-space where t * (n . d) < e - n . o
 abbrev pub limit_on : HalfSpace → Ray → Limit
 limit_on h ray = limit_of (dot_of h.n ray.d) (h.e -ℤ dot_of h.n ray.o)
 
@@ -30,12 +27,10 @@ Meets (Above num den) t = IsBelow (record { num = num; den = den }) t
 
 -- the numbers fit, and denominators are above 0
 abbrev pub IsSmall : Limit → Type 0
-IsSmall Never = Unit {0}
-IsSmall Always = Unit {0}
 IsSmall (Below num den) = (0 < num) × (num < 2 ^ 126) × (0 < den) × (den < 2 ^ 126)
 IsSmall (Above num den) = (0 < num) × (num < 2 ^ 126) × (0 < den) × (den < 2 ^ 126)
+IsSmall limit = Unit {0}
 
 -- the limits of a solid along a ray
 abbrev pub limits : List HalfSpace → Ray → List Limit
-limits [] ray = []
-limits (h ∷ solid) ray = limit_on h ray ∷ limits solid ray
+limits solid ray = map (λ h. limit_on h ray) solid

@@ -87,10 +87,9 @@ impl Interval {
         ensures { IsSpanOf self result }
     {
         if cmp_products(self.from_num, self.to_den, self.to_num, self.from_den).is_lt() {
-            Some(Span {
-                from: ratio(self.from_num, self.from_den),
-                to: ratio(self.to_num, self.to_den),
-            })
+            let from = ratio(self.from_num, self.from_den);
+            let to = ratio(self.to_num, self.to_den);
+            Some(Span { from, to })
         } else {
             None
         }

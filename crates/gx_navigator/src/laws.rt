@@ -6,7 +6,7 @@ pub fn one_report()
     ensures { OneReport }
 {}
 
-/// Each ray that has a direction has a report in each world.
+/// Each ray that has a direction has a report in each bounded solid.
 pub fn each_ray_has_a_report()
     ensures { EachRayHasAReport }
 {}

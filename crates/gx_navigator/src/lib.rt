@@ -1,4 +1,4 @@
-//! The report of a ray: where it is in which volume.
+//! The report of a ray in a solid: where it is inside.
 #![tactic(auto)]
 
 mod clip;
@@ -6,5 +6,7 @@ mod interval;
 pub mod laws;
 mod limit;
 mod trace;
+mod world;
 
-pub use trace::world_span;
+pub use trace::span_within;
+pub use world::world_span;

@@ -1,9 +1,10 @@
 ghost use Rattle.std.specs.Prelude.{◌≡◌, ◌≤◌, ◌<◌, ◌^◌, ◌-ℤ◌, unsigned_abs};
-ghost use Rattle.gx_num.specs.Vector.{IsWithin, dot_of};
+ghost use Rattle.gx_num.specs.Vector.{IsWithin};
+ghost use Rattle.gx_plane.specs.Plane.{level_reach};
 ghost use Rattle.gx_navigator.specs.Limit.{limit_of, limit_on, IsSmall};
 
 use gx_num::Ray;
-use gx_tree::Bound;
+use gx_plane::Plane;
 
 /// What an inequality asks of a parameter above 0: a fraction that it stays below or above, or nothing, or too much.
 #[derive(Clone, Copy)]
@@ -14,23 +15,24 @@ pub enum Limit {
     Above(u128, u128),
 }
 
-/// What a bound asks along a ray.
-pub fn limit_along(bound: &Bound, ray: &Ray) -> Limit
-    requires bound { IsWithin (2 ^ 61) bound.now.n }
+/// What a face asks along a ray.
+pub fn limit_along(face: &Plane, ray: &Ray) -> Limit
     requires origin { IsWithin (2 ^ 61) ray.now.o }
     requires direction { IsWithin (2 ^ 61) ray.now.d }
-    ensures limit { result ≡ limit_on bound.now ray.now }
+    ensures limit { result ≡ limit_on face.now ray.now }
     ensures small { IsSmall result }
 {
-    limit_for(bound.n.dot(ray.d), difference(bound.e, bound.n.dot(ray.o)))
+    limit_for(face.n().dot(ray.d), room(face.e(), face.n().dot(ray.o)))
 }
 
-fn difference(e: i64, height: i128) -> i128
-    requires { unsigned_abs height ≤ 2 ^ 124 }
-    ensures value { result ≡ e -ℤ height }
+// How far a height is below a level.
+fn room(level: i128, height: i128) -> i128
+    requires level { unsigned_abs level ≤ level_reach }
+    requires height { unsigned_abs height ≤ 2 ^ 124 }
+    ensures value { result ≡ level -ℤ height }
     ensures bound { unsigned_abs result < 2 ^ 126 }
 {
-    i128::from(e) - height
+    level - height
 }
 
 // t * slope < level
@@ -52,7 +54,7 @@ fn limit_for(slope: i128, level: i128) -> Limit
         }
         return Limit::Always;
     }
-    // A ray that runs in the bound itself isn't inside.
+    // A ray that runs in the face itself isn't inside.
     if level <= 0 {
         return Limit::Never;
     }

@@ -1,29 +1,28 @@
 -- What the words of a line are good for, once judged.
-use Rattle.std.proofs.Common.{◌≡◌, unsigned_abs, List, false, arith, refl, sym, ◌∙◌, true≢false}
+use Rattle.std.proofs.Common.{◌≡◌, ℕ, ◌≤◌, ◌<◌, ◌+◌, unsigned_abs, All, List, length, false, arith, refl, sym, ◌∙◌, true≢false, take, drop, ℤ}
+use Rattle.std.proofs.lemmas.List.Elements.{All-take, All-map, All-drop}
 use Rattle.gx_num.specs.declared.vector.V3.{V3}
 use Rattle.gx_num.specs.declared.vector.TheConstants.{M}
 use Rattle.gx_num.specs.Vector.{IsWithin}
 use Rattle.gx_num.specs.Space.{HasDirection}
-use Rattle.gx_reader.specs.declared.judge.Judge.TheVariants.{Name}
 use Rattle.gx_reader.specs.declared.judge.Given.{Given}
 use Rattle.gx_reader.specs.declared.judge.Given.TheVariants.{Nothing}
-use Rattle.gx_reader.specs.Form.{ray_form, vector_at, is_zero}
-use Rattle.gx_reader.specs.Given.{AllFit}
-use Rattle.gx_reader.proofs.Judged.{Fits-at}
+use Rattle.gx_reader.specs.Form.{vector_at, is_zero}
+use Rattle.gx_reader.specs.Judge.{number_in, values_in}
+use Rattle.gx_reader.specs.Given.{Fits}
 
-pub origin_within : (givens : List Given) → AllFit ray_form givens → IsWithin (unsigned_abs M) (vector_at 0 givens)
-origin_within givens fits = record {
-  x = Fits-at ray_form givens 0 Name Nothing fits (omega arith);
-  y = Fits-at ray_form givens 1 Name Nothing fits (omega arith);
-  z = Fits-at ray_form givens 2 Name Nothing fits (omega arith);
-}
-
-pub direction_within : (givens : List Given) → AllFit ray_form givens → IsWithin (unsigned_abs M) (vector_at 3 givens)
-direction_within givens fits = record {
-  x = Fits-at ray_form givens 3 Name Nothing fits (omega arith);
-  y = Fits-at ray_form givens 4 Name Nothing fits (omega arith);
-  z = Fits-at ray_form givens 5 Name Nothing fits (omega arith);
+pub vector_within : (givens : List Given) (i : ℕ) → All Fits givens → i + 2 < length givens → IsWithin (unsigned_abs M) (vector_at i givens)
+vector_within givens i fits h = record {
+  x = fits i Nothing (omega (arith, h));
+  y = fits (i + 1) Nothing (omega (arith, h));
+  z = fits (i + 2) Nothing h;
 }
 
 pub moves : (v : V3) → is_zero v ≡ false → (o : V3) → HasDirection (record { o = o; d = v })
 moves v e o = λ x y z. true≢false (sym (rw (x, y, z) refl) ∙ e)
+
+-- ---- a solid's values
+pub values_within : (n : ℕ) (givens : List Given) → All Fits givens → All (λ v. unsigned_abs v ≤ unsigned_abs M) (take n (values_in givens))
+values_within n givens fits =
+    let small : ℤ → Type 0 = λ v. unsigned_abs v ≤ unsigned_abs M in
+    All-take small n (values_in givens) (All-map small number_in (drop 2 givens) (All-drop Fits 2 givens fits))

@@ -1,6 +1,6 @@
 -- What each line declares, after what the lines before it declared.
 -- Tags and the order of words: the documentation of Geant4's ASCII text geometry format; `:RAY` is this project's own.
-use Rattle.std.specs.Prelude.{ℕ, ◌+◌, ◌-◌, ℤ, pos, Bool, List, [], ◌∷◌, ◌++◌, length, drop, Option, None, Some, Result, Ok, Err, ◌==◌, ◌&&◌, not, nat_le, if◌then◌else◌, slice_index_or, codes, is_some}
+use Rattle.std.specs.Prelude.{ℕ, ◌+◌, ◌-◌, ℤ, pos, Bool, List, [], ◌∷◌, ◌++◌, length, take, drop, replicate, Option, None, Some, Result, Ok, Err, ◌==◌, ◌&&◌, not, nat_le, if◌then◌else◌, slice_index_or, codes, is_some}
 use Rattle.std.specs.Ordering.{int_eq}
 use Rattle.std.specs.Str.{bytes_eq}
 use Rattle.gx_num.specs.declared.vector.V3.{V3}
@@ -16,10 +16,15 @@ use Rattle.gx_reader.specs.declared.fault.TextFault.{TextFault}
 use Rattle.gx_reader.specs.declared.tag.Tag.{Tag}
 use Rattle.gx_reader.specs.declared.tag.Tag.TheVariants.{Param as ParamTag, Volume as VolumeTag, Ray as RayTag}
 use Rattle.gx_reader.specs.declared.judge.Judge.{Judge}
-use Rattle.gx_reader.specs.declared.judge.Judge.TheVariants.{Name, ParamName, Kind, Expression, Steps, Half}
+use Rattle.gx_reader.specs.declared.judge.Judge.TheVariants.{Name, ParamName, Kind, Expression, Steps, Extent}
 use Rattle.gx_reader.specs.declared.judge.Given.{Given}
-use Rattle.gx_reader.specs.declared.judge.Given.TheVariants.{Nothing, Number, Worthy}
-use Rattle.gx_reader.specs.Judge.{verdict, judged_from, not_built}
+use Rattle.gx_reader.specs.declared.judge.Given.TheVariants.{Nothing, Number, Worthy, OfKind}
+use Rattle.gx_shapes.specs.declared.kind.SolidKind.{SolidKind}
+use Rattle.gx_shapes.specs.Shape.{Shape, value_count}
+use Rattle.gx_solids.specs.declared.fault.SolidFault.{SolidFault}
+use Rattle.gx_solids.specs.declared.fault.SolidFault.TheVariants.{At, Whole, NoMemory}
+use Rattle.gx_solids.specs.Accepted.{accepted}
+use Rattle.gx_reader.specs.Judge.{number_in, values_in, kind_of, verdict, judged_from, not_built}
 
 -- ---- what is declared so far
 
@@ -45,9 +50,10 @@ tag_of w = if bytes_eq w (codes ":P") then Some ParamTag else if bytes_eq w (cod
 abbrev pub param_form : List Judge
 param_form = ParamName ∷ Expression ∷ []
 
--- `:VOLU` NAME `BOX` A B C MATERIAL
-abbrev pub volume_form : List Judge
-volume_form = Name ∷ Kind ∷ Half ∷ Half ∷ Half ∷ Name ∷ []
+-- `:VOLU` NAME KIND values MATERIAL
+abbrev pub volume_form : Option SolidKind → List Judge
+volume_form None = Name ∷ Kind ∷ []
+volume_form (Some kind) = Name ∷ Kind ∷ replicate (value_count kind) (Extent kind) ++ Name ∷ []
 
 -- `:RAY` X Y Z DX DY DZ
 abbrev pub ray_form : List Judge
@@ -55,12 +61,7 @@ ray_form = Steps ∷ Steps ∷ Steps ∷ Steps ∷ Steps ∷ Steps ∷ []
 
 -- the words after the first, judged from the left
 abbrev pub judged : Fraction → Declarations → List Judge → List (List ℕ) → Result (List Given) WordFault
-judged grid d form words = judged_from (verdict d.params grid) 2 form (drop 1 words)
-
-abbrev pub number_in : Given → ℤ
-number_in Nothing = pos 0
-number_in (Number n) = n
-number_in (Worthy worth) = pos 0
+judged grid d form words = judged_from (verdict d.params grid) [] 2 form (drop 1 words)
 
 -- the number that was given at a place after the first word, from 0
 abbrev pub number_at : ℕ → List Given → ℤ
@@ -90,6 +91,7 @@ param_given d name worth (Some before) = if is_same_worth before worth then Ok (
 abbrev pub param_of : Declarations → List ℕ → Given → Result Declarations WordFault
 param_of d name Nothing = Ok d
 param_of d name (Number n) = Ok d
+param_of d name (OfKind kind) = Ok d
 param_of d name (Worthy worth) = param_given d name worth (value_of d.params name)
 
 abbrev pub param_declared : Declarations → List (List ℕ) → Result (List Given) WordFault → Result Declarations WordFault
@@ -98,12 +100,25 @@ param_declared d words (Ok givens) = param_of d (word 2 words) (slice_index_or g
 
 -- ---- the world, and rays
 
-abbrev pub world_of : List (List ℕ) → List Given → World
-world_of words givens = record { name = word 2 words; half = vector_at 2 givens; material = word 7 words }
+-- a world's name is word 2, and its material the word after its values
+abbrev pub world_made : List (List ℕ) → Result Shape SolidFault → Result World WordFault
+world_made words (Ok shape) = Ok (record { name = word 2 words; solid = shape; material = word (value_count shape.kind + 4) words })
+world_made words (Err (At place name)) = Err (record { word = place + 4; name = name })
+world_made words (Err (Whole name)) = Err (record { word = 3; name = name })
+world_made words (Err NoMemory) = not_built 3
 
-abbrev pub world_declared : Declarations → List (List ℕ) → Result (List Given) WordFault → Result Declarations WordFault
-world_declared d words (Err fault) = Err fault
-world_declared d words (Ok givens) = Ok (record { params = d.params; param_lines = d.param_lines; world = Some (world_of words givens); rays = d.rays })
+-- from the values, without the material after them
+abbrev pub world_of : List (List ℕ) → SolidKind → List Given → Result World WordFault
+world_of words kind givens = world_made words (accepted kind (take (value_count kind) (values_in givens)))
+
+abbrev pub with_world : Declarations → Result World WordFault → Result Declarations WordFault
+with_world d (Err fault) = Err fault
+with_world d (Ok world) = Ok (record { params = d.params; param_lines = d.param_lines; world = Some world; rays = d.rays })
+
+abbrev pub world_declared : Declarations → List (List ℕ) → Option SolidKind → Result (List Given) WordFault → Result Declarations WordFault
+world_declared d words kind (Err fault) = Err fault
+world_declared d words None (Ok givens) = not_built 3
+world_declared d words (Some kind) (Ok givens) = with_world d (world_of words kind givens)
 
 abbrev pub is_zero : V3 → Bool
 is_zero v = int_eq v.x (pos 0) && int_eq v.y (pos 0) && int_eq v.z (pos 0)
@@ -128,7 +143,7 @@ declared_by grid d words None = not_built 1
 declared_by grid d words (Some ParamTag) =
     if nat_le most d.param_lines then not_built 1 else param_declared d words (judged grid d param_form words)
 declared_by grid d words (Some VolumeTag) =
-    if is_some d.world then not_built 1 else world_declared d words (judged grid d volume_form words)
+    if is_some d.world then not_built 1 else world_declared d words (kind_of (word 3 words)) (judged grid d (volume_form (kind_of (word 3 words))) words)
 declared_by grid d words (Some RayTag) =
     if is_some d.world && not (nat_le most (length d.rays)) then ray_declared d (judged grid d ray_form words) else not_built 1
 

@@ -1,10 +1,13 @@
 -- How a word is read by its place in a line, and how the words of a line are judged from the left.
-use Rattle.std.specs.Prelude.{ℕ, ◌+◌, ℤ, pos, int_lt, Bool, ◌==◌, ◌&&◌, ◌||◌, not, nat_le, if◌then◌else◌, List, [], ◌∷◌, length, codes, Result, Ok, Err}
+use Rattle.std.specs.Prelude.{ℕ, ◌+◌, ℤ, pos, Bool, ◌==◌, ◌&&◌, ◌||◌, not, nat_le, if◌then◌else◌, List, [], ◌∷◌, ◌++◌, map, drop, length, codes, Option, None, Some, Result, Ok, Err}
 use Rattle.std.specs.List.{list_all}
 use Rattle.std.specs.Str.{bytes_eq}
 use Rattle.gx_fraction.specs.Fraction.{Fraction}
 use Rattle.gx_table.specs.declared.fault.FaultName.{FaultName}
 use Rattle.gx_table.specs.declared.fault.FaultName.TheVariants.{NotBuilt, Syntax as SyntaxName, UnknownParam as UnknownParamName, UnknownUnit as UnknownUnitName, DivideByZero as DivideByZeroName, TooWide as TooWideName, UnitKind as UnitKindName, OffGrid as OffGridName, TooFar as TooFarName}
+use Rattle.gx_shapes.specs.declared.kind.SolidKind.{SolidKind}
+use Rattle.gx_shapes.specs.declared.kind.SolidKind.TheVariants.{Cuboid, Trd, Tet}
+use Rattle.gx_shapes.specs.Shape.{ValueFault, first_fault}
 use Rattle.gx_text.specs.Names.{is_name_of}
 use Rattle.gx_expr.specs.declared.fault.ExprFault.{ExprFault}
 use Rattle.gx_expr.specs.declared.fault.ExprFault.TheVariants.{Syntax, UnknownParam, UnknownUnit, DivideByZero, TooWide}
@@ -16,9 +19,9 @@ use Rattle.gx_expr.specs.Eval.{evaluated}
 use Rattle.gx_expr.specs.Convert.{steps}
 use Rattle.gx_reader.specs.declared.fault.WordFault.{WordFault}
 use Rattle.gx_reader.specs.declared.judge.Judge.{Judge}
-use Rattle.gx_reader.specs.declared.judge.Judge.TheVariants.{Name, ParamName, Kind, Expression, Steps, Half}
+use Rattle.gx_reader.specs.declared.judge.Judge.TheVariants.{Name, ParamName, Kind, Expression, Steps, Extent}
 use Rattle.gx_reader.specs.declared.judge.Given.{Given}
-use Rattle.gx_reader.specs.declared.judge.Given.TheVariants.{Nothing, Number, Worthy}
+use Rattle.gx_reader.specs.declared.judge.Given.TheVariants.{Nothing, Number, Worthy, OfKind}
 
 -- ---- names of faults
 
@@ -63,36 +66,59 @@ abbrev pub as_steps : Result ℤ FaultName → Result Given FaultName
 as_steps (Err name) = Err name
 as_steps (Ok n) = Ok (Number n)
 
--- a half-length is above 0
-abbrev pub as_half : Result ℤ FaultName → Result Given FaultName
-as_half (Err name) = Err name
-as_half (Ok n) = if int_lt (pos 0) n then Ok (Number n) else Err NotBuilt
+abbrev pub number_in : Given → ℤ
+number_in Nothing = pos 0
+number_in (Number n) = n
+number_in (Worthy worth) = pos 0
+number_in (OfKind kind) = pos 0
 
--- what a word is read as, or its fault
-abbrev pub verdict : List Param → Fraction → Judge → List ℕ → Result Given FaultName
-verdict params grid Name word = nothing_if (is_name_of word)
-verdict params grid ParamName word = nothing_if (is_param_name word)
-verdict params grid Kind word = nothing_if (bytes_eq word (codes "BOX"))
-verdict params grid Expression word = as_value (evaluated params word)
-verdict params grid Steps word = as_steps (steps_of grid (evaluated params word))
-verdict params grid Half word = as_half (steps_of grid (evaluated params word))
+-- the values of a solid so far: what was given after its name and its kind
+abbrev pub values_in : List Given → List ℤ
+values_in givens = map number_in (drop 2 givens)
+
+abbrev pub unless_fault : ℤ → Option ValueFault → Result Given FaultName
+unless_fault n None = Ok (Number n)
+unless_fault n (Some fault) = Err fault.name
+
+-- one more value of a solid; no value so far has a fault
+abbrev pub as_extent : SolidKind → List Given → Result ℤ FaultName → Result Given FaultName
+as_extent kind givens (Err name) = Err name
+as_extent kind givens (Ok n) = unless_fault n (first_fault kind (values_in givens ++ n ∷ []))
+
+-- the kinds of solids
+abbrev pub kind_of : List ℕ → Option SolidKind
+kind_of word = if bytes_eq word (codes "BOX") then Some Cuboid else if bytes_eq word (codes "TRD") then Some Trd else if bytes_eq word (codes "TET") then Some Tet else None
+
+abbrev pub as_kind : Option SolidKind → Result Given FaultName
+as_kind None = Err NotBuilt
+as_kind (Some kind) = Ok (OfKind kind)
+
+-- what a word is read as, after what the words before it gave; or its fault
+abbrev pub verdict : List Param → Fraction → List Given → Judge → List ℕ → Result Given FaultName
+verdict params grid givens Name word = nothing_if (is_name_of word)
+verdict params grid givens ParamName word = nothing_if (is_param_name word)
+verdict params grid givens Kind word = as_kind (kind_of word)
+verdict params grid givens Expression word = as_value (evaluated params word)
+verdict params grid givens Steps word = as_steps (steps_of grid (evaluated params word))
+verdict params grid givens (Extent kind) word = as_extent kind givens (steps_of grid (evaluated params word))
 
 -- ---- the words of a line
 
 abbrev pub not_built : {A : Type 0} → ℕ → Result A WordFault
 not_built i = Err (record { word = i; name = NotBuilt })
 
-abbrev pub given_first : Given → Result (List Given) WordFault → Result (List Given) WordFault
-given_first given (Err fault) = Err fault
-given_first given (Ok givens) = Ok (given ∷ givens)
+abbrev pub at_word : ℕ → Result Given FaultName → Result Given WordFault
+at_word i (Err name) = Err (record { word = i; name = name })
+at_word i (Ok given) = Ok given
 
-abbrev pub unless_refused : ℕ → Result Given FaultName → Result (List Given) WordFault → Result (List Given) WordFault
-unless_refused i (Err name) rest = Err (record { word = i; name = name })
-unless_refused i (Ok given) rest = given_first given rest
+abbrev pub and_given : Result Given WordFault → (Given → Result (List Given) WordFault) → Result (List Given) WordFault
+and_given (Err fault) next = Err fault
+and_given (Ok given) next = next given
 
--- The words from word i on, one for each judge; a missing word and a further one are faults at their place. The first fault counts.
-abbrev pub judged_from : (Judge → List ℕ → Result Given FaultName) → ℕ → List Judge → List (List ℕ) → Result (List Given) WordFault
-judged_from judge i [] [] = Ok []
-judged_from judge i [] (word ∷ words) = not_built i
-judged_from judge i (j ∷ js) [] = not_built i
-judged_from judge i (j ∷ js) (word ∷ words) = unless_refused i (judge j word) (judged_from judge (i + 1) js words)
+-- The words from word i on, one for each judge, after what was given before; a missing word and a further one are faults at their
+-- place. The first fault counts.
+abbrev pub judged_from : (List Given → Judge → List ℕ → Result Given FaultName) → List Given → ℕ → List Judge → List (List ℕ) → Result (List Given) WordFault
+judged_from judge givens i [] [] = Ok givens
+judged_from judge givens i [] (word ∷ words) = not_built i
+judged_from judge givens i (j ∷ js) [] = not_built i
+judged_from judge givens i (j ∷ js) (word ∷ words) = and_given (at_word i (judge givens j word)) (λ given. judged_from judge (givens ++ given ∷ []) (i + 1) js words)

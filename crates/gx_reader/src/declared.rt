@@ -1,12 +1,14 @@
-ghost use Rattle.std.specs.Prelude.{◌≡◌, ◌≤◌, ◌<◌, IfOk, IfErr, OnOk, Ok, Some, length, slice_index_or};
+ghost use Rattle.std.specs.Prelude.{◌≡◌, ◌≤◌, ◌<◌, IfOk, IfErr, OnOk, Ok, Some, All, length, slice_index_or};
 ghost use Rattle.gx_reader.specs.Form.{declare, nothing_declared, param_of, judged as judged_by, declared_by, tag_of, word, number_at as number_at_of, vector_at as vector_at_of, is_zero as is_zero_of};
-ghost use Rattle.gx_reader.specs.Given.{AllFit, IsCauseAt};
+ghost use Rattle.gx_reader.specs.Given.{Fits, IsCauseAt};
 ghost use Rattle.gx_reader.specs.Reading.{input_of, IsCause};
 
 use crate::fault::{ReadError, Refusal, TextFault, WordFault};
 use crate::input::{Input, MAX_RAYS, Rays};
-use crate::judge::{Context, Given, Judge};
+use crate::judge::{Context, Given, Judge, kind_from, number};
 use crate::tag::{Tag, tag_from};
+use crate::word::word_of;
+use crate::world::{volume_form, world_of};
 use gx_expr::{Grid, ParamFault, Params, Value};
 use gx_num::{Ray, V3};
 use gx_table::FaultName;
@@ -19,15 +21,6 @@ use std::marker::Model;
 const MAX_PARAMS: u32 = 65536;
 
 const PARAM_FORM: [Judge; 2] = [Judge::ParamName, Judge::Expression];
-
-const VOLUME_FORM: [Judge; 6] = [
-    Judge::Name,
-    Judge::Kind,
-    Judge::Half,
-    Judge::Half,
-    Judge::Half,
-    Judge::Name,
-];
 
 const RAY_FORM: [Judge; 6] = [Judge::Steps; 6];
 
@@ -141,11 +134,13 @@ impl Declared {
         if self.world.is_some() {
             return Err(not_built(1));
         }
-        let givens = self.judged(&VOLUME_FORM, line)?;
-        let half = vector_at(&givens, 2);
-        let name = Vec::from_slice(self.alloc, word_of(line, 2))?;
-        let material = Vec::from_slice(self.alloc, word_of(line, 7))?;
-        self.world = Some(Hierarchy::new(name, half, material));
+        let kind = kind_from(word_of(line, 3));
+        let givens = self.judged(&volume_form(self.alloc, kind)?, line)?;
+        let Some(kind) = kind else {
+            return Err(not_built(3));
+        };
+        let tree = world_of(self.alloc, line, kind, &givens)?;
+        self.world = Some(tree);
         Ok(())
     }
 
@@ -174,14 +169,16 @@ impl Declared {
     fn judged(&self, form: &[Judge], line: &Line) -> Result<Vec<Given>, Refusal>
         requires { length form.now ≤ 16 }
         ensures ok { IfOk result (λ givens. judged_by self.now.grid self.now.so_far form.now line.now.words ≡ Ok givens.items) }
-        ensures fits { IfOk result (λ givens. AllFit form.now givens.items) }
+        ensures count { IfOk result (λ givens. length givens.items ≡ length form.now) }
+        ensures fits { IfOk result (λ givens. All Fits givens.items) }
         ensures err { IfErr result (IsCauseAt (judged_by self.now.grid self.now.so_far form.now line.now.words)) }
     {
         let context = Context {
+            alloc: self.alloc,
             params: &self.params,
             grid: &self.grid,
         };
-        context.judged(self.alloc, form, line)
+        context.judged(form, line)
     }
 
     /// The input, where there is a world.
@@ -208,17 +205,6 @@ impl Declared {
     }
 }
 
-// Word i of a line, from 1; nothing where it isn't there.
-fn word_of(line: &Line, i: u32) -> &[u8]
-    requires { 1 ≤ i }
-    ensures { result.now ≡ word i line.now.words }
-{
-    if i > line.count() {
-        return b"";
-    }
-    line.word(i)
-}
-
 fn not_built(word: u32) -> Refusal
     ensures { result ≡ Refusal.At (record { word = word; name = FaultName.NotBuilt }) }
 {
@@ -240,10 +226,7 @@ fn given_at(givens: &[Given], i: usize) -> Given
 fn number_at(givens: &[Given], i: usize) -> i64
     ensures { result ≡ number_at_of i givens.now }
 {
-    match given_at(givens, i) {
-        Given::Number(number) => number,
-        _ => 0,
-    }
+    number(given_at(givens, i))
 }
 
 fn vector_at(givens: &[Given], i: usize) -> V3

@@ -1,15 +1,18 @@
-ghost use Rattle.std.specs.Prelude.{◌≡◌, ◌≤◌, ◌+◌, drop, length, IfOk, IfErr, unsigned_abs, Ok};
+ghost use Rattle.std.specs.Prelude.{◌≡◌, ◌≤◌, [], drop, length, IfOk, IfErr, unsigned_abs, All, Ok};
 ghost use Rattle.std.specs.List.{list_all};
 ghost use Rattle.gx_num.specs.declared.vector.TheConstants.{M};
-ghost use Rattle.gx_reader.specs.Judge.{name_of_expr, name_of_step, is_param_byte as is_param_byte_of, is_param_name as is_param_name_of, nothing_if, steps_of, verdict as verdict_of, judged_from};
-ghost use Rattle.gx_reader.specs.Given.{Fits, AllFit, IsCauseAt};
 ghost use Rattle.gx_expr.specs.Eval.{evaluated};
+ghost use Rattle.gx_reader.specs.Judge.{name_of_expr, name_of_step, is_param_byte as is_param_byte_of, is_param_name as is_param_name_of, nothing_if, steps_of, number_in, values_in, unless_fault, as_value, as_steps, as_extent, kind_of, as_kind, at_word, verdict as verdict_of, judged_from};
+ghost use Rattle.gx_shapes.specs.Shape.{first_fault};
+ghost use Rattle.gx_reader.specs.Given.{Fits, IsCauseAt};
 
 use crate::fault::{Refusal, WordFault};
 use gx_expr::{ExprFault, Grid, Params, StepFault, Value, eval, to_steps};
+use gx_shapes::SolidKind;
+use gx_solids::word_fault;
 use gx_table::FaultName;
 use gx_text::{Line, is_name};
-use std::alloc::Global;
+use std::alloc::{AllocError, Global};
 
 /// What may stand at a place of a line.
 #[derive(Clone, Copy, Debug, PartialEq, Eq)]
@@ -24,8 +27,8 @@ pub enum Judge {
     Expression,
     /// A whole number of steps.
     Steps,
-    /// A half-length in steps.
-    Half,
+    /// A value of a solid of this kind, after its name, its kind and the values before.
+    Extent(SolidKind),
 }
 
 /// What a word is read as.
@@ -34,11 +37,13 @@ pub enum Given {
     Nothing,
     Number(i64),
     Worthy(Value),
+    OfKind(SolidKind),
 }
 
 /// What expressions and lengths are read by.
 #[derive(Clone, Copy)]
 pub struct Context<'a> {
+    pub alloc: Global,
     pub params: &'a Params,
     pub grid: &'a Grid,
 }
@@ -96,6 +101,78 @@ fn nothing(good: bool) -> Result<Given, FaultName>
     }
 }
 
+/// The kind of solid that a word is.
+pub fn kind_from(word: &[u8]) -> Option<SolidKind>
+    ensures { result ≡ kind_of word.now }
+{
+    if word == b"BOX".as_slice() {
+        return Some(SolidKind::Cuboid);
+    }
+    if word == b"TRD".as_slice() {
+        return Some(SolidKind::Trd);
+    }
+    if word == b"TET".as_slice() {
+        return Some(SolidKind::Tet);
+    }
+    None
+}
+
+fn kind_given(word: &[u8]) -> Result<Given, FaultName>
+    ensures { result ≡ as_kind (kind_of word.now) }
+{
+    match kind_from(word) {
+        Some(kind) => Ok(Given::OfKind(kind)),
+        None => Err(FaultName::NotBuilt),
+    }
+}
+
+/// The number that was given; 0 where none was.
+pub fn number(given: Given) -> i64
+    ensures { result ≡ number_in given }
+{
+    match given {
+        Given::Number(number) => number,
+        _ => 0,
+    }
+}
+
+/// The values of a solid among the words after a line's first.
+pub fn values(alloc: Global, givens: &[Given]) -> Result<Vec<i64>, AllocError>
+    ensures { IfOk result (λ values. values.items ≡ values_in givens.now) }
+{
+    givens
+        .iter()
+        .skip(2)
+        .map(|given| number(*given))
+        .collect(alloc)
+}
+
+fn unless_refused(kind: SolidKind, values: &[i64], number: i64) -> Result<Given, FaultName>
+    requires { length values.now ≤ 4096 }
+    ensures { result ≡ unless_fault number (first_fault kind values.now) }
+{
+    match word_fault(kind, values) {
+        Some((_, name)) => Err(name),
+        None => Ok(Given::Number(number)),
+    }
+}
+
+fn refusal(word: u32, name: FaultName) -> Refusal
+    ensures { result ≡ Refusal.At (record { word = word; name = name }) }
+{
+    Refusal::At(WordFault { word, name })
+}
+
+fn placed(word: u32, given: Result<Given, FaultName>) -> Result<Given, Refusal>
+    ensures ok { IfOk result (λ read. at_word word given ≡ Ok read) }
+    ensures err { IfErr result (IsCauseAt (at_word word given)) }
+{
+    match given {
+        Ok(given) => Ok(given),
+        Err(name) => Err(refusal(word, name)),
+    }
+}
+
 impl Context<'_> {
     fn steps(&self, word: &[u8]) -> Result<i64, FaultName>
         ensures value { result ≡ steps_of self.now.grid.now (evaluated self.now.params.now word.now) }
@@ -107,73 +184,93 @@ impl Context<'_> {
         }
     }
 
-    /// What a word is read as, or its fault.
-    fn verdict(&self, judge: Judge, word: &[u8]) -> Result<Given, FaultName>
-        ensures value { result ≡ verdict_of self.now.params.now self.now.grid.now judge word.now }
-        ensures fits { IfOk result (Fits judge) }
+    fn number(&self, word: &[u8]) -> Result<Given, FaultName>
+        ensures value { result ≡ as_steps (steps_of self.now.grid.now (evaluated self.now.params.now word.now)) }
+        ensures fits { IfOk result Fits }
+    {
+        match self.steps(word) {
+            Ok(steps) => Ok(Given::Number(steps)),
+            Err(name) => Err(name),
+        }
+    }
+
+    fn value(&self, word: &[u8]) -> Result<Given, FaultName>
+        ensures value { result ≡ as_value (evaluated self.now.params.now word.now) }
+        ensures fits { IfOk result Fits }
+    {
+        match eval(self.params, word) {
+            Ok(value) => Ok(Given::Worthy(value)),
+            Err(fault) => Err(expr_name(fault)),
+        }
+    }
+
+    // One more value of a solid.
+    fn extent(
+        &self,
+        givens: &[Given],
+        kind: SolidKind,
+        place: u32,
+        word: &[u8],
+    ) -> Result<Given, Refusal>
+        requires { length givens.now ≤ 16 }
+        ensures ok { IfOk result (λ given. at_word place (as_extent kind givens.now (steps_of self.now.grid.now (evaluated self.now.params.now word.now))) ≡ Ok given) }
+        ensures fits { IfOk result Fits }
+        ensures err { IfErr result (IsCauseAt (at_word place (as_extent kind givens.now (steps_of self.now.grid.now (evaluated self.now.params.now word.now))))) }
+    {
+        match self.steps(word) {
+            Ok(steps) => {
+                let mut values = values(self.alloc, givens)?;
+                values.push(steps)?;
+                placed(place, unless_refused(kind, &values, steps))
+            }
+            Err(name) => Err(refusal(place, name)),
+        }
+    }
+
+    // What the word at a place is read as, after what the words before it gave; or its fault.
+    fn verdict(
+        &self,
+        givens: &[Given],
+        judge: Judge,
+        place: u32,
+        word: &[u8],
+    ) -> Result<Given, Refusal>
+        requires { length givens.now ≤ 16 }
+        ensures ok { IfOk result (λ given. at_word place (verdict_of self.now.params.now self.now.grid.now givens.now judge word.now) ≡ Ok given) }
+        ensures fits { IfOk result Fits }
+        ensures err { IfErr result (IsCauseAt (at_word place (verdict_of self.now.params.now self.now.grid.now givens.now judge word.now))) }
     {
         match judge {
-            Judge::Name => nothing(is_name(word)),
-            Judge::ParamName => nothing(is_param_name(word)),
-            Judge::Kind => nothing(word == b"BOX".as_slice()),
-            Judge::Expression => match eval(self.params, word) {
-                Ok(value) => Ok(Given::Worthy(value)),
-                Err(fault) => Err(expr_name(fault)),
-            },
-            Judge::Steps => match self.steps(word) {
-                Ok(steps) => Ok(Given::Number(steps)),
-                Err(name) => Err(name),
-            },
-            Judge::Half => match self.steps(word) {
-                Ok(steps) => {
-                    if steps > 0 {
-                        Ok(Given::Number(steps))
-                    } else {
-                        Err(FaultName::NotBuilt)
-                    }
-                }
-                Err(name) => Err(name),
-            },
+            Judge::Name => placed(place, nothing(is_name(word))),
+            Judge::ParamName => placed(place, nothing(is_param_name(word))),
+            Judge::Kind => placed(place, kind_given(word)),
+            Judge::Expression => placed(place, self.value(word)),
+            Judge::Steps => placed(place, self.number(word)),
+            Judge::Extent(kind) => self.extent(givens, kind, place, word),
         }
     }
 
     /// Reads the words after a line's first, one for each judge, or answers the first fault.
-    pub fn judged(
-        &self,
-        alloc: Global,
-        judges: &[Judge],
-        line: &Line,
-    ) -> Result<Vec<Given>, Refusal>
+    pub fn judged(&self, judges: &[Judge], line: &Line) -> Result<Vec<Given>, Refusal>
         requires { length judges.now ≤ 16 }
-        ensures ok { IfOk result (λ givens. judged_from (verdict_of self.now.params.now self.now.grid.now) 2 judges.now (drop 1 line.now.words) ≡ Ok givens.items) }
-        ensures fits { IfOk result (λ givens. AllFit judges.now givens.items) }
-        ensures err { IfErr result (IsCauseAt (judged_from (verdict_of self.now.params.now self.now.grid.now) 2 judges.now (drop 1 line.now.words))) }
+        ensures ok { IfOk result (λ givens. judged_from (verdict_of self.now.params.now self.now.grid.now) [] 2 judges.now (drop 1 line.now.words) ≡ Ok givens.items) }
+        ensures count { IfOk result (λ givens. length givens.items ≡ length judges.now) }
+        ensures fits { IfOk result (λ givens. All Fits givens.items) }
+        ensures err { IfErr result (IsCauseAt (judged_from (verdict_of self.now.params.now self.now.grid.now) [] 2 judges.now (drop 1 line.now.words))) }
     {
-        let mut givens = Vec::new(alloc);
+        let mut givens = Vec::new(self.alloc);
         let mut word = 2;
         for judge in judges {
             if word > line.count() {
-                return Err(missing(word));
+                return Err(refusal(word, FaultName::NotBuilt));
             }
-            match self.verdict(*judge, line.word(word)) {
-                Ok(given) => givens.push(given)?,
-                Err(name) => return Err(Refusal::At(WordFault { word, name })),
-            }
+            let given = self.verdict(&givens, *judge, word, line.word(word))?;
+            givens.push(given)?;
             word += 1;
         }
         if word <= line.count() {
-            return Err(missing(word));
+            return Err(refusal(word, FaultName::NotBuilt));
         }
         Ok(givens)
     }
-}
-
-// A word that isn't there, or one too many.
-fn missing(word: u32) -> Refusal
-    ensures { result ≡ Refusal.At (record { word = word; name = FaultName.NotBuilt }) }
-{
-    Refusal::At(WordFault {
-        word,
-        name: FaultName::NotBuilt,
-    })
 }

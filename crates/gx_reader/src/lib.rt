@@ -7,6 +7,8 @@ mod input;
 mod judge;
 mod read;
 mod tag;
+mod word;
+mod world;
 
 pub use fault::{ReadError, TextFault};
 pub use input::{Input, Rays};

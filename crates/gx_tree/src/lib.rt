@@ -1,8 +1,6 @@
-//! The hierarchy of volumes: so far a world alone, which is a box.
+//! The hierarchy of volumes: so far a world alone.
 #![tactic(auto)]
 
-mod bound;
 mod hierarchy;
 
-pub use bound::Bound;
 pub use hierarchy::Hierarchy;

@@ -1,9 +1,9 @@
-use Rattle.std.proofs.Common.{◌≡◌, ◌≤◌, ℕ, length, drop, ◌+◌, false, sym, arith}
+use Rattle.std.proofs.Common.{◌≡◌, ◌≤◌, ℕ, length, drop, ◌+◌, false, sym, ap, ◌∙◌, arith}
 use Rattle.std.specs.Prelude.{nat_lt}
-use Rattle.std.proofs.lemmas.Result.{err_from_is_err_and}
+use Rattle.std.proofs.lemmas.Result.{err_from_is_err_and, IfOk-weaker}
 use Rattle.std.proofs.lemmas.Bool.Decides.{nat_tests}
-use Rattle.std.proofs.lemmas.List.{drop_more}
-use Rattle.gx_reader.specs.Reading.{input_of, most_bytes}
+use Rattle.std.proofs.lemmas.List.{drop_more, drop_all}
+use Rattle.gx_reader.specs.Reading.{and_then, input_of, most_bytes}
 use Rattle.gx_reader.proofs.Resume.{cause_then, cause_same}
 use Rattle.gx_reader.proofs.read.read_text.Goals as goal
 
@@ -19,3 +19,10 @@ returns-in_err-take-clause-err c =
     let so_far = rw here at c.loop-byte.invariant.same in
     let cause = c.in_err-take.ensures.err (drop (i + 1) c.args.text.now) in
     rw (p.1, p.2, short) (cause_then _ _ (λ d. input_of d.world d.rays) (cause_same _ _ _ (sym so_far) cause))
+
+pub returns-clause-ok : goal.returns-clause-ok
+returns-clause-ok c =
+    let short = not_long (length c.args.text.now) (omega (arith, c.if-text-gt-MAX_TEXT.false)) in
+    let none = drop_all c.loop-byte.byte-index c.args.text.now (omega (arith, c.loop-byte-test.false)) in
+    let so_far = rw none at c.loop-byte.invariant.same in
+    rw short (IfOk-weaker c.finish.result _ _ (λ input e. ap (λ r. and_then r (λ d. input_of d.world d.rays)) (sym so_far) ∙ e) c.finish.ensures.ok)

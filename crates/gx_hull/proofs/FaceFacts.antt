@@ -1,0 +1,191 @@
+-- The faces of a list of points that is not flat bound its points, and imply each half-space that does.
+use Rattle.std.proofs.Common.{get_or, ◌≡◌, ◌⊎◌, inl, inr, Bool, true, false, ◌&&◌, not, cond, Option, Some, None, List, [], ◌∷◌, ◌++◌, flat_map, filter_map, find, All, ℤ, pos, ◌-ℤ◌, ◌*ℤ◌, ◌≤ℤ◌, int_le, unsigned_abs, refl, sym, ap, ◌∙◌, subst, arith, true≢false}
+use Rattle.std.specs.List.{list_any, cons_option}
+use Rattle.std.specs.Ordering.{int_eq}
+use Rattle.std.specs.Bool.{Decides}
+use Rattle.std.proofs.lemmas.Bool.Decides.{Decides-int_eq, Decides-and, Decides-like, Decides-by_and}
+use Rattle.std.proofs.lemmas.Int.{by_lt_z}
+use Rattle.std.proofs.lemmas.List.Elements.{All-nil, All-cons, All-head, All-tail, All-contains}
+use Rattle.std.proofs.lemmas.List.Sums.{AllPass-from_list_all}
+use Rattle.std.proofs.lemmas.Map.Views.{Contains-from_any}
+use Rattle.gx_num.specs.declared.vector.V3.{V3}
+use Rattle.gx_num.specs.Space.{Vec4, HalfSpace, height, is_in}
+use Rattle.gx_algebra.proofs.Identities.{same3}
+use Rattle.gx_plane.specs.Plane.{divisor_of, is_zero, side_of, Supports, turned, normal_of, plane_through}
+use Rattle.gx_plane.specs.Between.{triples_of, both_ways, candidates}
+use Rattle.gx_plane.proofs.Divisors.{divisor_of-same, not_zero-divisor_of, IsPrimitive-primitive}
+use Rattle.gx_plane.proofs.PlaneFacts.{side_of-turned, plane_through_some}
+use Rattle.gx_plane.proofs.Candidates.{none_passes}
+use Rattle.gx_shapes.specs.Points.{is_same, is_flat}
+use Rattle.gx_shapes.proofs.Distinct.{Decides-is_same, by_bool}
+use Rattle.gx_shapes.specs.Hull.{IsAtMost, IsBound}
+use Rattle.gx_hull.specs.Hull.{supports, outward, is_same_plane, distinct_planes_after, faces_of}
+use Rattle.gx_hull.proofs.Truth.{Decides-int_le}
+use Rattle.gx_hull.proofs.Supporting.{IsBroken, broken, not_all_on}
+use borrow.Author.Differences.{ints}
+
+-- ---- the test of support
+pub Decides-supports : (h : HalfSpace) (points : List V3) → Decides (supports points h) (Supports h points)
+Decides-supports h points =
+    Decides-by_and (λ p. int_le (side_of h p) (pos 0)) (λ p. side_of h p ≤ℤ pos 0) (λ ps. supports ps h) (λ p. Decides-int_le (side_of h p) (pos 0)) refl (λ _ _. refl) points
+
+-- ---- each plane once
+same_half_space : (a b : HalfSpace) → a.n ≡ b.n → a.e ≡ b.e → a ≡ b
+same_half_space a b p q = λ i. record { n = p i; e = q i }
+
+pub is_same_plane-same : (a b : HalfSpace) → is_same_plane a b ≡ true → a ≡ b
+is_same_plane-same a b e = (decides a b).0 e
+  where
+    decides : (a b : HalfSpace) → Decides (is_same_plane a b) (a ≡ b)
+    decides a b =
+        Decides-like {P = (a.n ≡ b.n) × (a.e ≡ b.e)} (is_same_plane a b)
+        (λ e. same_half_space a b e.0 e.1)
+        (λ e. (ap (λ (h : HalfSpace). h.n) e, ap (λ (h : HalfSpace). h.e) e))
+        (Decides-and (is_same a.n b.n) (int_eq a.e b.e) (Decides-is_same a.n b.n) (Decides-int_eq a.e b.e))
+
+seen_is : (seen : List HalfSpace) (h : HalfSpace) (hs : List HalfSpace) → list_any (is_same_plane h) seen ≡ true → distinct_planes_after seen (h ∷ hs) ≡ distinct_planes_after seen hs
+seen_is seen h hs e = ap (λ (b : Bool). cond b (distinct_planes_after seen hs) (h ∷ distinct_planes_after (h ∷ seen) hs)) e
+
+new_is : (seen : List HalfSpace) (h : HalfSpace) (hs : List HalfSpace) → list_any (is_same_plane h) seen ≡ false → distinct_planes_after seen (h ∷ hs) ≡ h ∷ distinct_planes_after (h ∷ seen) hs
+new_is seen h hs e = ap (λ (b : Bool). cond b (distinct_planes_after seen hs) (h ∷ distinct_planes_after (h ∷ seen) hs)) e
+
+All-distinct : (P : HalfSpace → Type 0) (seen hs : List HalfSpace) → All P hs → All P (distinct_planes_after seen hs)
+All-distinct P seen [] k = k
+All-distinct P seen (h ∷ hs) k =
+    by_bool (list_any (is_same_plane h) seen)
+    (λ e. rw (seen_is seen h hs e) (All-distinct P seen hs (All-tail P h hs k)))
+    (λ e. rw (new_is seen h hs e) (All-cons P h (distinct_planes_after (h ∷ seen) hs) (All-head P h hs k) (All-distinct P (h ∷ seen) hs (All-tail P h hs k))))
+
+All-from_distinct : (P : HalfSpace → Type 0) (seen hs : List HalfSpace) → All P seen → All P (distinct_planes_after seen hs) → All P hs
+All-from_distinct P seen [] s k = k
+All-from_distinct P seen (h ∷ hs) s k =
+    by_bool (list_any (is_same_plane h) seen)
+    (λ e. All-cons P h hs (All-contains P seen h s (Contains-from_any is_same_plane-same h seen e))
+    (All-from_distinct P seen hs s (rw (seen_is seen h hs e) at k)))
+    (λ e.
+    let now = rw (new_is seen h hs e) at k in
+    let first : P h = All-head P h (distinct_planes_after (h ∷ seen) hs) now in
+    All-cons P h hs first (All-from_distinct P (h ∷ seen) hs (All-cons P h seen first s) (All-tail P h (distinct_planes_after (h ∷ seen) hs) now)))
+
+-- ---- each face is a plane that bounds the points
+All-filter_map : {X : Type 0} (P : HalfSpace → Type 0) (f : X → Option HalfSpace) (xs : List X) → ((x : X) (h : HalfSpace) → f x ≡ Some h → P h) → All P (filter_map f xs)
+All-filter_map P f [] each = All-nil P
+All-filter_map P f (x ∷ xs) each = add (f x) (each x) (All-filter_map P f xs each)
+  where
+    add : (o : Option HalfSpace) → ((h : HalfSpace) → o ≡ Some h → P h) → All P (filter_map f xs) → All P (cons_option o (filter_map f xs))
+    add None one rest = rest
+    add (Some h) one rest = All-cons P h (filter_map f xs) (one h refl) rest
+
+not_zero : (h : HalfSpace) → divisor_of h.n ≡ 1 → is_zero h.n ≡ false
+not_zero h e = not_zero-divisor_of h.n (omega arith)
+
+-- the same plane turned has the same divisor
+not_zero-turned : (h : HalfSpace) → divisor_of h.n ≡ 1 → is_zero (turned h).n ≡ false
+not_zero-turned h e = not_zero (turned h) (divisor_of-same (turned h).n h.n (opposite h.n.x) (opposite h.n.y) (opposite h.n.z) ∙ e)
+  where
+    opposite : (a : ℤ) → unsigned_abs (pos 0 -ℤ a) ≡ unsigned_abs a
+    opposite a = omega (arith, ints)
+
+some_same : {a b : HalfSpace} → Some a ≡ Some b → a ≡ b
+some_same e = cc
+
+-- the plane kept is the one given or the same turned, and bounds the points
+IsBound-outward : (points : List V3) (k h : HalfSpace) → divisor_of k.n ≡ 1 → outward points (Some k) ≡ Some h → IsBound points h
+IsBound-outward points k h one e = go (supports points k) (supports points (turned k)) refl refl e
+  where
+    go : (s t : Bool) → supports points k ≡ s → supports points (turned k) ≡ t → cond s (Some k) (cond t (Some (turned k)) None) ≡ Some h → IsBound points h
+    go true t es et f = subst (IsBound points) (some_same f) (record { plane = not_zero k one; supports = (Decides-supports k points).0 es })
+    go false true es et f = subst (IsBound points) (some_same f) (record { plane = not_zero-turned k one; supports = (Decides-supports (turned k) points).0 et })
+    go false false es et f = cc
+
+pub faces_bound : (points : List V3) → All (IsBound points) (faces_of points)
+faces_bound points =
+    All-distinct (IsBound points) [] (filter_map (λ t. outward points (plane_through t.0 t.1 t.2)) (triples_of points))
+    (All-filter_map (IsBound points) (λ (t : V3 × V3 × V3). outward points (plane_through t.0 t.1 t.2)) (triples_of points) (λ t h e. face t h (plane_through t.0 t.1 t.2) refl e))
+  where
+    face : (t : V3 × V3 × V3) (h : HalfSpace) (o : Option HalfSpace) → plane_through t.0 t.1 t.2 ≡ o → outward points o ≡ Some h → IsBound points h
+    face t h None p e = cc
+    face t h (Some k) p e =
+        let through = plane_through_some t.0 t.1 t.2 k p in
+        IsBound-outward points k h (ap (λ (g : HalfSpace). divisor_of g.n) through.same ∙ (IsPrimitive-primitive (normal_of t.0 t.1 t.2) through.apart).divisor) e
+
+-- ---- a point that the faces hold at breaks no plane that bounds the points
+turned-turned : (h : HalfSpace) → turned (turned h) ≡ h
+turned-turned h = same_half_space (turned (turned h)) h (same3 (turned (turned h)).n h.n (again h.n.x) (again h.n.y) (again h.n.z)) (again h.e)
+  where
+    again : (a : ℤ) → pos 0 -ℤ (pos 0 -ℤ a) ≡ a
+    again a = omega (arith, ints)
+
+abbrev holds_at : Vec4 → HalfSpace → Bool
+holds_at p h = int_le (height h p) (h.e *ℤ p.w)
+
+abbrev Hold : Vec4 → List HalfSpace → Type 0
+Hold p hs = All (λ h. holds_at p h ≡ true) hs
+
+-- a plane that bounds the points only one way, and that the point breaks
+abbrev breaks : List V3 → Vec4 → HalfSpace → Bool
+breaks points p h = supports points h && (not (holds_at p h) && not (supports points (turned h)))
+
+passes : (points : List V3) (p : Vec4) (h : HalfSpace) → (supports points h ≡ false) ⊎ (holds_at p h ≡ true) ⊎ (supports points (turned h) ≡ true) → breaks points p h ≡ false
+passes points p h = go (supports points h) (holds_at p h) (supports points (turned h))
+  where
+    go : (s k t : Bool) → (s ≡ false) ⊎ (k ≡ true) ⊎ (t ≡ true) → (s && (not k && not t)) ≡ false
+    go false k t why = refl
+    go true true t why = refl
+    go true false true why = refl
+    go true false false (inl e) = absurd (true≢false e)
+    go true false false (inr (inl e)) = absurd (true≢false (sym e))
+    go true false false (inr (inr e)) = absurd (true≢false (sym e))
+
+none_breaks : (points : List V3) (p : Vec4) (ts : List (V3 × V3 × V3)) → Hold p (filter_map (λ t. outward points (plane_through t.0 t.1 t.2)) ts) → find (breaks points p) (flat_map (λ t. both_ways (plane_through t.0 t.1 t.2)) ts) ≡ None
+none_breaks points p [] k = refl
+none_breaks points p (t ∷ ts) k =
+    go (plane_through t.0 t.1 t.2) (none_breaks points p ts) k
+  where
+    faces : List HalfSpace
+    faces = filter_map (λ t. outward points (plane_through t.0 t.1 t.2)) ts
+
+    rest : List HalfSpace
+    rest = flat_map (λ t. both_ways (plane_through t.0 t.1 t.2)) ts
+
+    go : (o : Option HalfSpace) → (Hold p faces → find (breaks points p) rest ≡ None) → Hold p (cons_option (outward points o) faces) → find (breaks points p) (both_ways o ++ rest) ≡ None
+    go None later k = later k
+    go (Some h) later k = ways (supports points h) (supports points (turned h)) refl refl k
+      where
+        neither : breaks points p h ≡ false → breaks points p (turned h) ≡ false → Hold p faces → find (breaks points p) (h ∷ turned h ∷ rest) ≡ None
+        neither e f k = rw (e, f) (later k)
+
+        ways : (s u : Bool) → supports points h ≡ s → supports points (turned h) ≡ u → Hold p (cons_option (cond s (Some h) (cond u (Some (turned h)) None)) faces) → find (breaks points p) (h ∷ turned h ∷ rest) ≡ None
+        ways true u es eu k =
+            neither (passes points p h (inr (inl (All-head (λ h. holds_at p h ≡ true) h faces k))))
+            (passes points p (turned h) (inr (inr (ap (supports points) (turned-turned h) ∙ es))))
+            (All-tail (λ h. holds_at p h ≡ true) h faces k)
+        ways false true es eu k =
+            neither (passes points p h (inl es))
+            (passes points p (turned h) (inr (inl (All-head (λ h. holds_at p h ≡ true) (turned h) faces k))))
+            (All-tail (λ h. holds_at p h ≡ true) (turned h) faces k)
+        ways false false es eu k = neither (passes points p h (inl es)) (passes points p (turned h) (inl eu)) k
+
+pub implied : (vertices : List V3) → is_flat vertices ≡ false → (h : HalfSpace) → Supports h vertices → (p : Vec4) → is_in (faces_of vertices) p ≡ true → IsAtMost h p
+implied vertices solid h s p inside =
+    by_lt_z (h.e *ℤ p.w) (height h p) (λ lt. absurd (no (broken vertices h p solid s lt))) (λ le. le)
+  where
+    none : find (breaks vertices p) (candidates vertices) ≡ None
+    none = none_breaks vertices p (triples_of vertices)
+        (All-from_distinct (λ h. holds_at p h ≡ true) [] (filter_map (λ t. outward vertices (plane_through t.0 t.1 t.2)) (triples_of vertices)) (All-nil (λ h. holds_at p h ≡ true)) (AllPass-from_list_all (holds_at p) (faces_of vertices) inside))
+
+    always : (s k t : Bool) → s ≡ true → (k ≡ true → ⊥) → (t ≡ true → ⊥) → (s && (not k && not t)) ≡ false → ⊥
+    always true true t es ek et e = ek refl
+    always true false true es ek et e = et refl
+    always true false false es ek et e = true≢false e
+    always false k t es ek et e = true≢false (sym es)
+
+    no : IsBroken vertices p → ⊥
+    no b =
+        always (supports vertices b.plane) (holds_at p b.plane) (supports vertices (turned b.plane))
+        ((Decides-supports b.plane vertices).1 b.supports)
+        (λ e. omega (arith, ints, b.beyond, (Decides-int_le (height b.plane p) (b.plane.e *ℤ p.w)).0 e))
+        (λ e.
+        let turned_too = (Decides-supports (turned b.plane) vertices).0 e in
+        not_all_on vertices b.plane p solid (λ k d lt. omega (arith, ints, b.supports k d lt, turned_too k d lt, side_of-turned b.plane (get_or vertices k d))) b.beyond)
+        (none_passes (breaks vertices p) vertices b.first b.second b.third b.plane none b.first_in b.second_in b.third_in b.same).0

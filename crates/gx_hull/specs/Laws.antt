@@ -1,0 +1,30 @@
+-- The faces of a solid's vertices are the solid.
+use Rattle.std.specs.Prelude.{◌≡◌, ℤ, pos, ◌<ℤ◌, ◌*ℤ◌, false, IsTrue, List}
+use Rattle.gx_num.specs.declared.vector.V3.{V3}
+use Rattle.gx_num.specs.Space.{Vec4, HalfSpace, is_in, is_inside}
+use Rattle.gx_plane.specs.Plane.{Supports}
+use Rattle.gx_shapes.specs.Points.{is_flat}
+use Rattle.gx_shapes.specs.Hull.{IsAtMost, IsHullOf}
+use Rattle.gx_hull.specs.Hull.{faces_of, extent_of}
+
+-- the point is strictly between the two coordinates
+pub record IsBetween (low high at w : ℤ) : Type 0 where
+  pub above : (low *ℤ w) <ℤ at
+  pub below : at <ℤ (high *ℤ w)
+
+-- strictly between the least and the greatest coordinates on each axis
+pub record IsWithinExtent (vertices : List V3) (p : Vec4) : Type 0 where
+  pub x : IsBetween (extent_of vertices).low.x (extent_of vertices).high.x p.x p.w
+  pub y : IsBetween (extent_of vertices).low.y (extent_of vertices).high.y p.y p.w
+  pub z : IsBetween (extent_of vertices).low.z (extent_of vertices).high.z p.z p.w
+
+-- A point is in, or inside, a solid exactly where it is so by the faces of its vertices; what bounds the vertices bounds each
+-- point in the solid; a point inside is strictly within the extent.
+pub record AreTheSolid (solid : List HalfSpace) (vertices : List V3) : Type 0 where
+  pub same_in : (p : Vec4) → pos 0 <ℤ p.w → is_in solid p ≡ is_in (faces_of vertices) p
+  pub same_inside : (p : Vec4) → pos 0 <ℤ p.w → is_inside solid p ≡ is_inside (faces_of vertices) p
+  pub bounded : (h : HalfSpace) → Supports h vertices → (p : Vec4) → pos 0 <ℤ p.w → IsTrue (is_in solid p) → IsAtMost h p
+  pub extent : (p : Vec4) → pos 0 <ℤ p.w → IsTrue (is_inside solid p) → IsWithinExtent vertices p
+
+abbrev pub FacesAreTheSolid : Type 0
+FacesAreTheSolid = (solid : List HalfSpace) (vertices : List V3) → is_flat vertices ≡ false → IsHullOf solid vertices → AreTheSolid solid vertices

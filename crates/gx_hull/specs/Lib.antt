@@ -1,0 +1,3 @@
+pub mod Hull
+pub mod Laws
+pub mod Planes

@@ -1,0 +1,98 @@
+ghost use Rattle.std.specs.Prelude.{◌≡◌, ◌≤◌, ◌<◌, length, unsigned_abs, All, false, IfOk, IfErr};
+ghost use Rattle.gx_num.specs.declared.vector.TheConstants.{M};
+ghost use Rattle.gx_num.specs.Vector.{IsWithin};
+ghost use Rattle.gx_plane.specs.Plane.{reach};
+ghost use Rattle.gx_hull.specs.Hull.{faces_of, extent_of, hull_of, IsVertices, IsHullCause};
+
+use crate::HullFault;
+use crate::faces::{faces, is_flat};
+use crate::planes::planes;
+use crate::points::{distinct, extent};
+use gx_num::{NoMemory, V3};
+use gx_plane::Plane;
+use std::alloc::Global;
+use std::marker::Model;
+
+/// The least and the greatest coordinates of a set of points.
+#[derive(Clone, Copy, Debug, PartialEq, Eq)]
+pub struct Extent {
+    pub low: V3,
+    pub high: V3,
+}
+
+/// The convex hull of 4 to 32 distinct points that aren't coplanar, with coordinates at most 2 M in magnitude.
+/// Contracts see its vertices.
+#[derive(Drop)]
+pub struct Hull {
+    vertices: Vec<V3>,
+    faces: Vec<Plane>,
+    extent: Extent,
+}
+
+impl Model for Hull {
+    ghost use Rattle.std.specs.Prelude.{◌≡◌, List};
+    ghost use Rattle.gx_num.specs.declared.vector.V3.{V3 as Point};
+    ghost use Rattle.gx_hull.specs.Hull.{IsVertices, faces_of, extent_of};
+
+    ghost Value = { List Point };
+
+    ghost view = { λ h. h.vertices.items };
+
+    ghost invariant = { λ h. IsVertices h.vertices.items × (h.faces.items ≡ faces_of h.vertices.items) × (h.extent ≡ extent_of h.vertices.items) };
+}
+
+impl Hull {
+    /// The hull of these points; a repeated point is dropped after its first place. `Vertices` where there are more
+    /// than 32 distinct ones, else `Flat` where they are coplanar.
+    pub fn new(alloc: Global, points: Vec<V3>) -> Result<Hull, HullFault>
+        requires { All (IsWithin (unsigned_abs M)) points.items }
+        ensures ok { IfOk result (λ hull. hull_of points.items ≡ Ok hull) }
+        ensures err { IfErr result (IsHullCause (hull_of points.items)) }
+    {
+        let vertices = distinct(alloc, &points)?;
+        let planes = planes(alloc, &vertices)?;
+        if is_flat(&vertices, &planes) {
+            return Err(HullFault::Flat);
+        }
+        let faces = faces(alloc, &vertices, &planes)?;
+        let extent = extent(&vertices);
+        Ok(Hull {
+            vertices,
+            faces,
+            extent,
+        })
+    }
+
+    /// An equal hull.
+    pub fn copy(&self, alloc: Global) -> Result<Hull, NoMemory>
+        ensures { IfOk result (λ hull. hull ≡ self.now) }
+    {
+        Ok(Hull {
+            vertices: Vec::from_slice(alloc, &self.vertices)?,
+            faces: Vec::from_slice(alloc, &self.faces)?,
+            extent: self.extent,
+        })
+    }
+
+    /// The vertices, in the order of the points.
+    pub fn vertices(&self) -> &[V3]
+        ensures value { result.now ≡ self.now }
+        ensures kept { IsVertices result.now }
+    {
+        &self.vertices
+    }
+
+    /// The faces, in the order of the triples of vertices, with their normals outward.
+    pub fn faces(&self) -> &[Plane]
+        ensures { result.now ≡ faces_of self.now }
+    {
+        &self.faces
+    }
+
+    /// The least and the greatest coordinates of the vertices.
+    pub fn extent(&self) -> Extent
+        ensures { result ≡ extent_of self.now }
+    {
+        self.extent
+    }
+}

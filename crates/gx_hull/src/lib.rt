@@ -1,0 +1,16 @@
+//! Convex hulls of points with their faces, and solids: a kind, its values and its hull.
+#![tactic(auto)]
+
+mod faces;
+mod fault;
+mod hull;
+pub mod laws;
+mod planes;
+mod points;
+mod solid;
+#[cfg(test)]
+mod tests;
+
+pub use fault::HullFault;
+pub use hull::{Extent, Hull};
+pub use solid::Solid;

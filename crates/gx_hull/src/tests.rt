@@ -1,0 +1,90 @@
+ghost use Rattle.std.specs.Prelude.{◌≡◌, ◌<◌, ◌≤◌, length, unsigned_abs, All, IfOk};
+ghost use Rattle.gx_num.specs.Vector.{IsWithin};
+ghost use Rattle.gx_num.specs.declared.vector.TheConstants.{M};
+
+use crate::{Extent, Hull, HullFault};
+use gx_num::V3;
+use gx_plane::Plane;
+use std::alloc::{AllocError, Global};
+use std::test::Fail;
+
+fn point(x: i64, y: i64, z: i64) -> V3
+    ensures x { result.x ≡ x }
+    ensures y { result.y ≡ y }
+    ensures z { result.z ≡ z }
+{
+    V3 { x, y, z }
+}
+
+fn count(alloc: Global, points: &[V3]) -> Result<usize, HullFault>
+    requires { All (IsWithin (unsigned_abs M)) points.now }
+{
+    let hull = Hull::new(alloc, Vec::from_slice(alloc, points)?)?;
+    Ok(hull.vertices().len())
+}
+
+// By hand: in the order of the triples of corners, 0 1 2, 0 1 4, 0 2 4, 1 3 5, 2 3 6 and 4 5 6.
+#[test]
+fn a_box_has_six_faces_and_its_extent(rt: HostRuntime) -> Result<(), Fail> {
+    let corners = [
+        point(-3, -4, -5),
+        point(3, -4, -5),
+        point(-3, 4, -5),
+        point(3, 4, -5),
+        point(-3, -4, 5),
+        point(3, -4, 5),
+        point(-3, 4, 5),
+        point(3, 4, 5),
+    ];
+    let points = Vec::from_slice(rt.alloc(), &corners)?;
+    let hull = Hull::new(rt.alloc(), points).ok().ok_or("a hull")?;
+    let faces = [
+        Plane::along(2, false, -5),
+        Plane::along(1, false, -4),
+        Plane::along(0, false, -3),
+        Plane::along(0, true, 3),
+        Plane::along(1, true, 4),
+        Plane::along(2, true, 5),
+    ];
+    assert!(rt; hull.vertices() == corners.as_slice());
+    assert!(rt; hull.faces() == faces.as_slice());
+    assert_eq!(rt;
+        hull.extent(),
+        Extent {
+            low: corners[0],
+            high: corners[7]
+        }
+    );
+    Ok(())
+}
+
+// Distinct points near a line.
+fn line(alloc: Global, count: u8) -> Result<Vec<V3>, AllocError>
+    ensures { IfOk result (λ points. All (IsWithin (unsigned_abs M)) points.items) }
+{
+    let mut points = Vec::new(alloc);
+    for i in 0..count {
+        points.push(point(i64::from(i), i64::from(i % 2), i64::from(i % 3)))?;
+    }
+    Ok(points)
+}
+
+#[test]
+fn what_is_a_hull_and_what_is_not(rt: HostRuntime) -> Result<(), Fail> {
+    let alloc = rt.alloc();
+    let once = [
+        point(0, 0, 0),
+        point(2, 0, 0),
+        point(0, 2, 0),
+        point(0, 0, 2),
+    ];
+    let again = [once[0], once[1], once[0], once[2], once[1], once[3]];
+    let coplanar = [once[0], once[1], once[2], point(2, 2, 0)];
+    assert_eq!(rt; count(alloc, &once), Ok(4));
+    assert_eq!(rt; count(alloc, &again), Ok(4));
+    assert_eq!(rt; count(alloc, &coplanar), Err(HullFault::Flat));
+    assert_eq!(rt; count(alloc, &once[..3]), Err(HullFault::Flat));
+    assert_eq!(rt; count(alloc, &line(alloc, 32)?), Ok(32));
+    assert_eq!(rt; count(alloc, &line(alloc, 33)?), Err(HullFault::Vertices));
+    Ok(())
+}

@@ -1,0 +1,9 @@
+pub mod Accepted
+pub mod Bounds
+pub mod Distinct
+pub mod Flatness
+mod KnownShapes
+pub mod Lists
+pub mod Solids
+pub mod Tetrahedra
+pub mod Trapezoids

@@ -1,0 +1,19 @@
+-- What it takes for vertices to be those of a solid.
+use Rattle.std.specs.Prelude.{◌≡◌, pos, ◌<ℤ◌, ◌≤ℤ◌, ◌*ℤ◌, IsTrue, false, List, All}
+use Rattle.gx_num.specs.declared.vector.V3.{V3}
+use Rattle.gx_num.specs.Space.{Vec4, HalfSpace, height, is_in}
+use Rattle.gx_plane.specs.Plane.{Supports, is_zero}
+
+-- the point is at n . p <= e
+abbrev pub IsAtMost : HalfSpace → Vec4 → Type 0
+IsAtMost h p = height h p ≤ℤ (h.e *ℤ p.w)
+
+-- an inequality of a solid: it speaks of a plane, and no vertex is beyond it
+pub record IsBound (vertices : List V3) (h : HalfSpace) : Type 0 where
+  pub plane : is_zero h.n ≡ false
+  pub supports : Supports h vertices
+
+-- The vertices are those of the solid: each of its inequalities bounds them, and what bounds them bounds its points.
+pub record IsHullOf (solid : List HalfSpace) (vertices : List V3) : Type 0 where
+  pub bounds : All (IsBound vertices) solid
+  pub bounded : (h : HalfSpace) → Supports h vertices → (p : Vec4) → pos 0 <ℤ p.w → IsTrue (is_in solid p) → IsAtMost h p

@@ -1,0 +1,4 @@
+pub mod Faces
+pub mod Hulls
+pub mod Places
+pub mod Values
