@@ -3,6 +3,8 @@ use crate::{Status, counted};
 use gx_fraction::Frac;
 use gx_io::{MemSink, MemSource};
 use gx_num::{V3, cmp_products, gcd, sign};
+use gx_reader::{ReadError, TextFault};
+use gx_table::FaultName;
 use gx_text::{LineFault, Lines, Name, is_name};
 use std::alloc::Global;
 use std::cmp::Ordering;
@@ -392,5 +394,19 @@ fn lines_and_names(rt: HostRuntime) -> Result<(), Fail> {
     assert!(rt; is_name(name.bytes()));
     assert!(rt; !is_name(b":world"));
     assert_eq!(rt; name.into_bytes().len(), 5);
+    Ok(())
+}
+
+#[test]
+fn the_message_of_a_read_error_is_its_name(rt: HostRuntime) -> Result<(), Fail> {
+    let fault = TextFault {
+        line: 1,
+        word: 2,
+        name: FaultName::Twice,
+    };
+    let text = format!(in rt.alloc(); "{}", ReadError::Text(fault))?;
+    assert_eq!(rt; text.as_str(), "Text");
+    let memory = format!(in rt.alloc(); "{}", ReadError::NoMemory)?;
+    assert_eq!(rt; memory.as_str(), "NoMemory");
     Ok(())
 }

@@ -4,7 +4,7 @@ use Rattle.std.specs.Int.{int_min, int_max}
 use Rattle.std.proofs.lemmas.List.Elements.{All-nil, All-cons}
 use Rattle.std.proofs.lemmas.Int.{fold-int_min_bounds, fold-int_max_bounds}
 use Rattle.gx_num.specs.declared.vector.V3.{V3}
-use Rattle.gx_shapes.proofs.Lists.{All-from_map}
+use Rattle.gx_algebra.proofs.Lists.{All-from_map}
 use Rattle.gx_hull.specs.Hull.{lower, upper, extent_of}
 
 -- a coordinate of a fold is the fold of the coordinates

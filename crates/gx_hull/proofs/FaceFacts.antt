@@ -1,25 +1,24 @@
 -- The faces of a list of points that is not flat bound its points, and imply each half-space that does.
 use Rattle.std.proofs.Common.{get_or, ◌≡◌, ◌⊎◌, inl, inr, Bool, true, false, ◌&&◌, not, cond, Option, Some, None, List, [], ◌∷◌, ◌++◌, flat_map, filter_map, find, All, ℤ, pos, ◌-ℤ◌, ◌*ℤ◌, ◌≤ℤ◌, int_le, unsigned_abs, refl, sym, ap, ◌∙◌, subst, arith, true≢false}
-use Rattle.std.specs.List.{list_any, cons_option}
+use Rattle.std.specs.List.{cons_option}
 use Rattle.std.specs.Ordering.{int_eq}
 use Rattle.std.specs.Bool.{Decides}
 use Rattle.std.proofs.lemmas.Bool.Decides.{Decides-int_eq, Decides-and, Decides-like, Decides-by_and}
 use Rattle.std.proofs.lemmas.Int.{by_lt_z}
-use Rattle.std.proofs.lemmas.List.Elements.{All-nil, All-cons, All-head, All-tail, All-contains}
+use Rattle.std.proofs.lemmas.List.Elements.{All-nil, All-cons, All-head, All-tail}
 use Rattle.std.proofs.lemmas.List.Sums.{AllPass-from_list_all}
-use Rattle.std.proofs.lemmas.Map.Views.{Contains-from_any}
 use Rattle.gx_num.specs.declared.vector.V3.{V3}
 use Rattle.gx_num.specs.Space.{Vec4, HalfSpace, height, is_in}
-use Rattle.gx_algebra.proofs.Identities.{same3}
+use Rattle.gx_plane.proofs.Candidates.{turned-turned}
 use Rattle.gx_plane.specs.Plane.{divisor_of, is_zero, side_of, Supports, turned, normal_of, plane_through}
 use Rattle.gx_plane.specs.Between.{triples_of, both_ways, candidates}
 use Rattle.gx_plane.proofs.Divisors.{divisor_of-same, not_zero-divisor_of, IsPrimitive-primitive}
 use Rattle.gx_plane.proofs.PlaneFacts.{side_of-turned, plane_through_some}
 use Rattle.gx_plane.proofs.Candidates.{none_passes}
 use Rattle.gx_shapes.specs.Points.{is_same, is_flat}
-use Rattle.gx_shapes.proofs.Distinct.{Decides-is_same, by_bool}
+use Rattle.gx_shapes.proofs.Distinct.{Decides-is_same, All-distinct_by, All-from_distinct_by}
 use Rattle.gx_shapes.specs.Hull.{IsAtMost, IsBound}
-use Rattle.gx_hull.specs.Hull.{supports, outward, is_same_plane, distinct_planes_after, faces_of}
+use Rattle.gx_hull.specs.Hull.{supports, outward, is_same_plane, faces_of}
 use Rattle.gx_hull.proofs.Truth.{Decides-int_le}
 use Rattle.gx_hull.proofs.Supporting.{IsBroken, broken, not_all_on}
 use borrow.Author.Differences.{ints}
@@ -42,30 +41,6 @@ is_same_plane-same a b e = (decides a b).0 e
         (λ e. same_half_space a b e.0 e.1)
         (λ e. (ap (λ (h : HalfSpace). h.n) e, ap (λ (h : HalfSpace). h.e) e))
         (Decides-and (is_same a.n b.n) (int_eq a.e b.e) (Decides-is_same a.n b.n) (Decides-int_eq a.e b.e))
-
-seen_is : (seen : List HalfSpace) (h : HalfSpace) (hs : List HalfSpace) → list_any (is_same_plane h) seen ≡ true → distinct_planes_after seen (h ∷ hs) ≡ distinct_planes_after seen hs
-seen_is seen h hs e = ap (λ (b : Bool). cond b (distinct_planes_after seen hs) (h ∷ distinct_planes_after (h ∷ seen) hs)) e
-
-new_is : (seen : List HalfSpace) (h : HalfSpace) (hs : List HalfSpace) → list_any (is_same_plane h) seen ≡ false → distinct_planes_after seen (h ∷ hs) ≡ h ∷ distinct_planes_after (h ∷ seen) hs
-new_is seen h hs e = ap (λ (b : Bool). cond b (distinct_planes_after seen hs) (h ∷ distinct_planes_after (h ∷ seen) hs)) e
-
-All-distinct : (P : HalfSpace → Type 0) (seen hs : List HalfSpace) → All P hs → All P (distinct_planes_after seen hs)
-All-distinct P seen [] k = k
-All-distinct P seen (h ∷ hs) k =
-    by_bool (list_any (is_same_plane h) seen)
-    (λ e. rw (seen_is seen h hs e) (All-distinct P seen hs (All-tail P h hs k)))
-    (λ e. rw (new_is seen h hs e) (All-cons P h (distinct_planes_after (h ∷ seen) hs) (All-head P h hs k) (All-distinct P (h ∷ seen) hs (All-tail P h hs k))))
-
-All-from_distinct : (P : HalfSpace → Type 0) (seen hs : List HalfSpace) → All P seen → All P (distinct_planes_after seen hs) → All P hs
-All-from_distinct P seen [] s k = k
-All-from_distinct P seen (h ∷ hs) s k =
-    by_bool (list_any (is_same_plane h) seen)
-    (λ e. All-cons P h hs (All-contains P seen h s (Contains-from_any is_same_plane-same h seen e))
-    (All-from_distinct P seen hs s (rw (seen_is seen h hs e) at k)))
-    (λ e.
-    let now = rw (new_is seen h hs e) at k in
-    let first : P h = All-head P h (distinct_planes_after (h ∷ seen) hs) now in
-    All-cons P h hs first (All-from_distinct P (h ∷ seen) hs (All-cons P h seen first s) (All-tail P h (distinct_planes_after (h ∷ seen) hs) now)))
 
 -- ---- each face is a plane that bounds the points
 All-filter_map : {X : Type 0} (P : HalfSpace → Type 0) (f : X → Option HalfSpace) (xs : List X) → ((x : X) (h : HalfSpace) → f x ≡ Some h → P h) → All P (filter_map f xs)
@@ -100,7 +75,7 @@ IsBound-outward points k h one e = go (supports points k) (supports points (turn
 
 pub faces_bound : (points : List V3) → All (IsBound points) (faces_of points)
 faces_bound points =
-    All-distinct (IsBound points) [] (filter_map (λ t. outward points (plane_through t.0 t.1 t.2)) (triples_of points))
+    All-distinct_by is_same_plane (IsBound points) [] (filter_map (λ t. outward points (plane_through t.0 t.1 t.2)) (triples_of points))
     (All-filter_map (IsBound points) (λ (t : V3 × V3 × V3). outward points (plane_through t.0 t.1 t.2)) (triples_of points) (λ t h e. face t h (plane_through t.0 t.1 t.2) refl e))
   where
     face : (t : V3 × V3 × V3) (h : HalfSpace) (o : Option HalfSpace) → plane_through t.0 t.1 t.2 ≡ o → outward points o ≡ Some h → IsBound points h
@@ -110,12 +85,6 @@ faces_bound points =
         IsBound-outward points k h (ap (λ (g : HalfSpace). divisor_of g.n) through.same ∙ (IsPrimitive-primitive (normal_of t.0 t.1 t.2) through.apart).divisor) e
 
 -- ---- a point that the faces hold at breaks no plane that bounds the points
-turned-turned : (h : HalfSpace) → turned (turned h) ≡ h
-turned-turned h = same_half_space (turned (turned h)) h (same3 (turned (turned h)).n h.n (again h.n.x) (again h.n.y) (again h.n.z)) (again h.e)
-  where
-    again : (a : ℤ) → pos 0 -ℤ (pos 0 -ℤ a) ≡ a
-    again a = omega (arith, ints)
-
 abbrev holds_at : Vec4 → HalfSpace → Bool
 holds_at p h = int_le (height h p) (h.e *ℤ p.w)
 
@@ -172,7 +141,7 @@ implied vertices solid h s p inside =
   where
     none : find (breaks vertices p) (candidates vertices) ≡ None
     none = none_breaks vertices p (triples_of vertices)
-        (All-from_distinct (λ h. holds_at p h ≡ true) [] (filter_map (λ t. outward vertices (plane_through t.0 t.1 t.2)) (triples_of vertices)) (All-nil (λ h. holds_at p h ≡ true)) (AllPass-from_list_all (holds_at p) (faces_of vertices) inside))
+        (All-from_distinct_by is_same_plane is_same_plane-same (λ h. holds_at p h ≡ true) [] (filter_map (λ t. outward vertices (plane_through t.0 t.1 t.2)) (triples_of vertices)) (All-nil (λ h. holds_at p h ≡ true)) (AllPass-from_list_all (holds_at p) (faces_of vertices) inside))
 
     always : (s k t : Bool) → s ≡ true → (k ≡ true → ⊥) → (t ≡ true → ⊥) → (s && (not k && not t)) ≡ false → ⊥
     always true true t es ek et e = ek refl

@@ -16,7 +16,8 @@ use Rattle.gx_plane.specs.Between.{triples_of}
 use Rattle.gx_plane.proofs.PlaneFacts.{plane_through_some, plane_through_none, side_of-plane_through}
 use Rattle.gx_shapes.specs.Points.{distinct, is_level, is_flat}
 use Rattle.gx_hull.specs.declared.fault.HullFault.TheVariants.{Vertices}
-use Rattle.gx_hull.specs.Hull.{outward, distinct_planes_after, faces_of, unless_flat, hull_of}
+use Rattle.gx_hull.specs.Hull.{is_same_plane, outward, faces_of, unless_flat, hull_of}
+use Rattle.gx_shapes.specs.Points.{distinct_by}
 use Rattle.gx_hull.specs.Planes.{planes_of, has_all}
 use borrow.Author.Differences.{ints}
 
@@ -58,8 +59,8 @@ is_flat-planes_of points = over (triples_of points)
         at (Some h) e rest = rw (level_on points t.0 t.1 t.2 h e, rest) refl
 
 -- ---- the faces
-pub faces_of-planes_of : (points : List V3) → distinct_planes_after [] (filter_map (λ h. outward points (Some h)) (planes_of points)) ≡ faces_of points
-faces_of-planes_of points = ap (distinct_planes_after []) (over (triples_of points))
+pub faces_of-planes_of : (points : List V3) → distinct_by is_same_plane [] (filter_map (λ h. outward points (Some h)) (planes_of points)) ≡ faces_of points
+faces_of-planes_of points = ap (distinct_by is_same_plane []) (over (triples_of points))
   where
     over : (ts : List (V3 × V3 × V3)) → filter_map (λ h. outward points (Some h)) (filter_map (λ t. plane_through t.0 t.1 t.2) ts) ≡ filter_map (λ t. outward points (plane_through t.0 t.1 t.2)) ts
     over [] = refl

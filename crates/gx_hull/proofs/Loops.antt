@@ -9,6 +9,7 @@ use Rattle.gx_num.specs.declared.vector.V3.{V3}
 use Rattle.gx_num.specs.Space.{HalfSpace}
 use Rattle.gx_plane.specs.Plane.{plane_through}
 use Rattle.gx_plane.specs.Between.{pairs_of, triples_of}
+use Rattle.gx_shapes.specs.Points.{distinct_by}
 use Rattle.gx_hull.specs.Planes.{planes_of, planes_with, planes_with_two}
 
 pub drop-at : {X : Type 0} (xs : List X) (i : ℕ) (d : X) → i < length xs → drop i xs ≡ get_or xs i d ∷ drop (i + 1) xs
@@ -36,20 +37,21 @@ planes_of-cons p points =
     filter_map-append (λ (t : V3 × V3 × V3). plane_through t.0 t.1 t.2) (map (λ (t : V3 × V3). (p, t.0, t.1)) (pairs_of points)) (triples_of points) ∙ ap (λ hs. hs ++ planes_of points) (filter_map-map (λ (t : V3 × V3 × V3). plane_through t.0 t.1 t.2) (λ (t : V3 × V3). (p, t.0, t.1)) (pairs_of points))
 
 -- ---- each element is kept once, at its first place
-module _ {X : Type 0} (same : X → X → Bool) (after : List X → List X → List X) (cons : (seen : List X) (x : X) (xs : List X) → after seen (x ∷ xs) ≡ cond (list_any (same x) seen) (after seen xs) (x ∷ after (x ∷ seen) xs)) where
-  at_reverse : (kept : List X) (x : X) (xs : List X) (b : Bool) → list_any (same x) kept ≡ b → after (reverse kept) (x ∷ xs) ≡ cond b (after (reverse kept) xs) (x ∷ after (x ∷ reverse kept) xs)
+module _ {X : Type 0} (same : X → X → Bool) where
+  at_reverse : (kept : List X) (x : X) (xs : List X) (b : Bool) → list_any (same x) kept ≡ b
+      → distinct_by same (reverse kept) (x ∷ xs) ≡ cond b (distinct_by same (reverse kept) xs) (x ∷ distinct_by same (x ∷ reverse kept) xs)
   at_reverse kept x xs b e =
-      cons (reverse kept) x xs ∙ ap (λ b. cond b (after (reverse kept) xs) (x ∷ after (x ∷ reverse kept) xs)) (sym (list_any-IsPermutation (same x) kept (reverse kept) (IsPermutation-reverse kept)) ∙ e)
+      ap (λ b. cond b (distinct_by same (reverse kept) xs) (x ∷ distinct_by same (x ∷ reverse kept) xs)) (sym (list_any-IsPermutation (same x) kept (reverse kept) (IsPermutation-reverse kept)) ∙ e)
 
-  pub first_time : (kept : List X) (x : X) (xs : List X) → list_any (same x) kept ≡ false → after (reverse kept) (x ∷ xs) ≡ x ∷ after (x ∷ reverse kept) xs
+  pub first_time : (kept : List X) (x : X) (xs : List X) → list_any (same x) kept ≡ false → distinct_by same (reverse kept) (x ∷ xs) ≡ x ∷ distinct_by same (x ∷ reverse kept) xs
   first_time kept x xs e = at_reverse kept x xs false e
 
-  pub passed_over : (kept now : List X) (x : X) (xs : List X) → now ≡ kept → list_any (same x) kept ≡ true → now ++ after (reverse now) xs ≡ kept ++ after (reverse kept) (x ∷ xs)
+  pub passed_over : (kept now : List X) (x : X) (xs : List X) → now ≡ kept → list_any (same x) kept ≡ true → now ++ distinct_by same (reverse now) xs ≡ kept ++ distinct_by same (reverse kept) (x ∷ xs)
   passed_over kept now x xs is e = rw is (ap (λ ys. kept ++ ys) (sym (at_reverse kept x xs true e)))
 
-  pub kept_now : (kept now : List X) (x : X) (xs : List X) → now ≡ kept ++ x ∷ [] → list_any (same x) kept ≡ false → now ++ after (reverse now) xs ≡ kept ++ after (reverse kept) (x ∷ xs)
+  pub kept_now : (kept now : List X) (x : X) (xs : List X) → now ≡ kept ++ x ∷ [] → list_any (same x) kept ≡ false → now ++ distinct_by same (reverse now) xs ≡ kept ++ distinct_by same (reverse kept) (x ∷ xs)
   kept_now kept now x xs is e =
-      ap (λ ys. ys ++ after (reverse ys) xs) is ∙ ap (λ seen. (kept ++ x ∷ []) ++ after seen xs) (reverse-append kept (x ∷ [])) ∙ append_assoc kept (x ∷ []) (after (x ∷ reverse kept) xs) ∙ ap (λ ys. kept ++ ys) (sym (first_time kept x xs e))
+      ap (λ ys. ys ++ distinct_by same (reverse ys) xs) is ∙ ap (λ seen. (kept ++ x ∷ []) ++ distinct_by same seen xs) (reverse-append kept (x ∷ [])) ∙ append_assoc kept (x ∷ []) (distinct_by same (x ∷ reverse kept) xs) ∙ ap (λ ys. kept ++ ys) (sym (first_time kept x xs e))
 
 pub filter_map-drop : {X Y : Type 0} (f : X → Option Y) (xs : List X) (i : ℕ) (d : X) (o : Option Y) → i < length xs → f (get_or xs i d) ≡ o → filter_map f (drop i xs) ≡ cons_option o (filter_map f (drop (i + 1) xs))
 filter_map-drop f xs i d o lt e =

@@ -3,12 +3,11 @@
 use Rattle.std.proofs.Common.{get_or, ◌≡◌, ◌⊎◌, inl, inr, false, Option, Some, None, List, [], ◌∷◌, map, All, Contains, ℤ, pos, ◌-ℤ◌, ◌*ℤ◌, ◌≤ℤ◌, ◌<ℤ◌, refl, sym, ap, ◌∙◌, subst, arith}
 use Rattle.std.proofs.lemmas.Bool.Decides.{not_from_Decides}
 use Rattle.std.proofs.lemmas.Int.{by_lt_z}
-use Rattle.std.proofs.lemmas.List.Elements.{All-weaker, All-map, All-contains, All-contains_itself}
+use Rattle.std.proofs.lemmas.List.Elements.{All-weaker, All-map}
 use Rattle.gx_num.specs.declared.vector.V3.{V3}
 use Rattle.gx_num.specs.Vector.{dot_of}
 use Rattle.gx_num.specs.Space.{Vec4, HalfSpace, height}
 use Rattle.gx_algebra.specs.Vectors.{origin, times3, dot4, times4, opposite4, det4, minors}
-use Rattle.gx_algebra.proofs.Ring.{num}
 use Rattle.gx_algebra.proofs.Terms as term
 use Rattle.gx_algebra.proofs.Terms.{Term3, Term4, ◌≣◌, ◌≣⁴◌, ◌⊕◌, ◌⊖◌, ◌⊗◌, none}
 use Rattle.gx_algebra.proofs.Identity.{identity, identity4, number, vector3, vector4, half_space}
@@ -17,22 +16,22 @@ use Rattle.gx_algebra.proofs.Laws.{mul_comm, mul-zero}
 use Rattle.gx_algebra.proofs.Order.{nonneg_of_mul, pos_of_mul, zero_of_mul}
 use Rattle.gx_plane.specs.Laws.{Spans, IsBeyond, IsFromThree}
 use Rattle.gx_plane.specs.Plane.{divisor_of, primitive, side_of, Supports, normal_of, plane_through}
+use Rattle.gx_algebra.proofs.Lists.{Contains-unmap}
+use Rattle.gx_plane.proofs.Complete.{within_term}
 use Rattle.gx_plane.proofs.Cones.{dot4-self_zero}
 use Rattle.gx_plane.proofs.Tilts.{tilted}
 use Rattle.gx_plane.proofs.PlaneFacts.{times3-primitive, plane_through_some, plane_through_none}
 use Rattle.gx_plane.proofs.Complete.{lifted, within}
 use Rattle.gx_shapes.specs.Points.{is_flat}
-use Rattle.gx_shapes.proofs.Lists.{All-from_map}
-use Rattle.gx_shapes.proofs.Flatness.{IsCoplanar, Decides-is_flat, volume, normal_term, volume_term}
+use Rattle.gx_algebra.proofs.Lists.{All-from_map}
+use Rattle.gx_plane.proofs.Candidates.{normal_term}
+use Rattle.gx_shapes.proofs.Flatness.{IsCoplanar, Decides-is_flat, volume, volume_term}
 use borrow.Author.Differences.{ints}
 
 -- ---- half-spaces and points as vectors of four numbers
 -- what is to have a product above 0 with a half-space that the point breaks
 abbrev pub broken_by : Vec4 → Vec4
 broken_by p = record { x = p.x; y = p.y; z = p.z; w = pos 0 -ℤ p.w }
-
-abbrev within_term : Term3 → Term4
-within_term p = record { x = none ⊖ p.x; y = none ⊖ p.y; z = none ⊖ p.z; w = num (pos 1) }
 
 abbrev lifted_term : Term3 → Term3 → Term4
 lifted_term n a = record { x = n.x; y = n.y; z = n.z; w = term.dot_of n a }
@@ -90,9 +89,6 @@ pub record IsBroken (vertices : List V3) (p : Vec4) : Type 0 where
   pub same : plane_through first second third ≡ Some plane
   pub supports : Supports plane vertices
   pub beyond : (plane.e *ℤ p.w) <ℤ height plane p
-
-Contains-unmap : (f : V3 → Vec4) (points : List V3) (m : Vec4) → Contains (map f points) m → (p : V3) × Contains points p × (f p ≡ m)
-Contains-unmap f points m h = All-contains (λ q. (p : V3) × Contains points p × (f p ≡ q)) (map f points) m (All-map (λ q. (p : V3) × Contains points p × (f p ≡ q)) f points (All-weaker (Contains points) (λ x. (p : V3) × Contains points p × (f p ≡ f x)) (λ x k. (x, k, refl)) points (All-contains_itself points))) h
 
 from_points : (vertices : List V3) (w : Vec4) → IsFromThree (map within vertices) w → (a b c : V3) × Contains vertices a × Contains vertices b × Contains vertices c × (w ≡ lifted (plane_from (normal_of a b c) a))
 from_points vertices w three =

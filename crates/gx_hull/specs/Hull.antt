@@ -1,17 +1,17 @@
 -- The faces and the extent of points, and the hull that they have.
 use Rattle.std.specs.Prelude.{◌≡◌, pos, ◌≤◌, Bool, false, ◌&&◌, int_le, nat_lt, if◌then◌else◌, List, [], ◌∷◌, length, fold, filter_map, All, Option, None, Some, Result, Ok, Err}
 use Rattle.std.specs.Int.{int_min, int_max}
-use Rattle.std.specs.List.{list_all, list_any}
+use Rattle.std.specs.List.{list_all}
 use Rattle.std.specs.Ordering.{int_eq}
 use Rattle.gx_num.specs.declared.vector.V3.{V3}
 use Rattle.gx_num.specs.Vector.{IsWithin}
 use Rattle.gx_num.specs.Space.{HalfSpace}
 use Rattle.gx_plane.specs.Plane.{reach, side_of, turned, plane_through}
 use Rattle.gx_plane.specs.Between.{triples_of}
-use Rattle.gx_shapes.specs.Points.{is_same, distinct, is_flat}
+use Rattle.gx_shapes.specs.Points.{is_same, distinct_by, distinct, is_flat}
 use Rattle.gx_hull.specs.declared.fault.HullFault.{HullFault}
 use Rattle.gx_hull.specs.declared.fault.HullFault.TheVariants.{Vertices, Flat, NoMemory}
-use Rattle.gx_hull.specs.declared.hull.Extent.{Extent}
+use Rattle.gx_num.specs.declared.extent.Extent.{Extent}
 
 -- ---- faces
 
@@ -28,14 +28,9 @@ outward points (Some h) =
 abbrev pub is_same_plane : HalfSpace → HalfSpace → Bool
 is_same_plane a b = is_same a.n b.n && int_eq a.e b.e
 
--- the planes that aren't among those seen before, each at its first place
-abbrev pub distinct_planes_after : List HalfSpace → List HalfSpace → List HalfSpace
-distinct_planes_after seen [] = []
-distinct_planes_after seen (h ∷ hs) = if list_any (is_same_plane h) seen then distinct_planes_after seen hs else h ∷ distinct_planes_after (h ∷ seen) hs
-
 -- the planes of three points that have all points on one side or on them, in the order of the triples, each once
 abbrev pub faces_of : List V3 → List HalfSpace
-faces_of points = distinct_planes_after [] (filter_map (λ t. outward points (plane_through t.0 t.1 t.2)) (triples_of points))
+faces_of points = distinct_by is_same_plane [] (filter_map (λ t. outward points (plane_through t.0 t.1 t.2)) (triples_of points))
 
 -- ---- the extent
 

@@ -8,17 +8,10 @@ use crate::HullFault;
 use crate::faces::{faces, is_flat};
 use crate::planes::planes;
 use crate::points::{distinct, extent};
-use gx_num::{NoMemory, V3};
+use gx_num::{Extent, NoMemory, V3};
 use gx_plane::Plane;
 use std::alloc::Global;
 use std::marker::Model;
-
-/// The least and the greatest coordinates of a set of points.
-#[derive(Clone, Copy, Debug, PartialEq, Eq)]
-pub struct Extent {
-    pub low: V3,
-    pub high: V3,
-}
 
 /// The convex hull of 4 to 32 distinct points that aren't coplanar, with coordinates at most 2 M in magnitude.
 /// Contracts see its vertices.

@@ -12,5 +12,5 @@ mod solid;
 mod tests;
 
 pub use fault::HullFault;
-pub use hull::{Extent, Hull};
+pub use hull::Hull;
 pub use solid::Solid;

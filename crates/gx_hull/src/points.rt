@@ -6,8 +6,8 @@ ghost use Rattle.gx_plane.specs.Plane.{reach};
 ghost use Rattle.gx_shapes.specs.Points.{is_same as is_same_point, distinct as distinct_of};
 ghost use Rattle.gx_hull.specs.Hull.{lower as lower_of, upper as upper_of, extent_of, hull_of, IsHullCause};
 
-use crate::{Extent, HullFault};
-use gx_num::V3;
+use crate::HullFault;
+use gx_num::{Extent, V3};
 use std::alloc::Global;
 
 const MOST: usize = 32;

@@ -2,8 +2,8 @@ ghost use Rattle.std.specs.Prelude.{◌≡◌, ◌<◌, ◌≤◌, length, unsig
 ghost use Rattle.gx_num.specs.Vector.{IsWithin};
 ghost use Rattle.gx_num.specs.declared.vector.TheConstants.{M};
 
-use crate::{Extent, Hull, HullFault};
-use gx_num::V3;
+use crate::{Hull, HullFault};
+use gx_num::{Extent, V3};
 use gx_plane::Plane;
 use std::alloc::{AllocError, Global};
 use std::test::Fail;

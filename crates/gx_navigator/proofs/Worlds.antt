@@ -8,7 +8,7 @@ use Rattle.gx_num.specs.declared.ray.Ray.{Ray}
 use Rattle.gx_num.specs.Space.{HalfSpace, Parameter, HasDirection, point_of_ray}
 use Rattle.gx_shapes.specs.Points.{distinct}
 use Rattle.gx_shapes.specs.Shape.{IsShape, solid_of, vertices_of}
-use Rattle.gx_hull.specs.declared.hull.Extent.{Extent}
+use Rattle.gx_num.specs.declared.extent.Extent.{Extent}
 use Rattle.gx_hull.specs.Hull.{faces_of, extent_of}
 use Rattle.gx_hull.specs.Laws.{AreTheSolid, IsBetween}
 use Rattle.gx_solids.proofs.Faces.{are_the_solid}

@@ -1,11 +1,13 @@
 //! Whole numbers, vectors, points and rays: the base of all geometry here.
 #![tactic(auto)]
 
+mod extent;
 mod memory;
 mod number;
 mod ray;
 mod vector;
 
+pub use extent::Extent;
 pub use memory::NoMemory;
 pub use number::{cmp_products, gcd, sign};
 pub use ray::Ray;

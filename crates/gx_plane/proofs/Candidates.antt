@@ -134,7 +134,7 @@ record IsCandidate (points : List V3) (h : HalfSpace) : Type 0 where
   itself : Has (candidates points) h
   other : Has (candidates points) (turned h)
 
-turned-turned : (h : HalfSpace) → turned (turned h) ≡ h
+pub turned-turned : (h : HalfSpace) → turned (turned h) ≡ h
 turned-turned h = λ i. record { n = record { x = again h.n.x i; y = again h.n.y i; z = again h.n.z i }; e = again h.e i }
   where
     again : (a : ℤ) → pos 0 -ℤ (pos 0 -ℤ a) ≡ a

@@ -1,11 +1,12 @@
 -- Where any plane of whole numbers is between two lists of points, a candidate is: it tilts to one.
-use Rattle.std.proofs.Common.{get_or, ◌≡◌, ◌⊎◌, inl, inr, ℕ, zero, suc, ◌<◌, Bool, true, false, ◌&&◌, Option, Some, None, List, [], ◌∷◌, ◌++◌, map, find, All, Contains, ℤ, pos, negsuc, ◌-ℤ◌, ◌*ℤ◌, ◌≤ℤ◌, int_le, refl, sym, ap, ◌∙◌, arith, true≢false}
+use Rattle.std.proofs.Common.{◌≡◌, ◌⊎◌, inl, inr, ℕ, ◌<◌, Bool, true, false, ◌&&◌, Option, Some, None, List, [], ◌∷◌, ◌++◌, map, find, All, Contains, ℤ, pos, negsuc, ◌-ℤ◌, ◌*ℤ◌, ◌≤ℤ◌, int_le, refl, sym, ap, ◌∙◌, arith, true≢false}
 use Rattle.std.specs.List.{list_all}
 use Rattle.std.proofs.lemmas.List.Sums.{list_all-from_AllPass}
-use Rattle.std.proofs.lemmas.List.Elements.{All-nil, All-cons, All-head, All-tail, All-weaker, All-contains, Contains-get_or, Contains-append_left, Contains-append_right, Contains-append_cases}
+use Rattle.std.proofs.lemmas.List.Elements.{All-weaker, Contains-append_left, Contains-append_right, Contains-append_cases}
 use Rattle.gx_num.specs.declared.vector.V3.{V3}
 use Rattle.gx_num.specs.Vector.{dot_of}
 use Rattle.gx_num.specs.Space.{Vec4, HalfSpace}
+use Rattle.gx_algebra.proofs.Lists.{All-append_parts, All-from_map, Contains-unmap}
 use Rattle.gx_algebra.specs.Vectors.{difference_of, dot4, times4, opposite4, minors}
 use Rattle.gx_algebra.proofs.Ring.{num}
 use Rattle.gx_algebra.proofs.Terms as term
@@ -40,7 +41,7 @@ sides a b = map within a ++ map beyond b
 abbrev beyond_term : Term3 → Term4
 beyond_term p = record { x = p.x; y = p.y; z = p.z; w = num (negsuc 0) }
 
-abbrev within_term : Term3 → Term4
+abbrev pub within_term : Term3 → Term4
 within_term p = record { x = none ⊖ p.x; y = none ⊖ p.y; z = none ⊖ p.z; w = num (pos 1) }
 
 within_is : (p : V3) → within p ≡ times4 (negsuc 0) (beyond p)
@@ -77,13 +78,6 @@ record IsSide (points : List V3) (m : Vec4) : Type 0 where
   is_sign : IsSign sign
   in_list : Contains points point
   same : m ≡ times4 sign (beyond point)
-
-Contains-unmap : (f : V3 → Vec4) (points : List V3) (m : Vec4) → Contains (map f points) m → (p : V3) × Contains points p × (f p ≡ m)
-Contains-unmap f [] m h = absurd (omega (arith, h.1))
-Contains-unmap f (p ∷ points) m (zero, lt, e) = (p, (0, omega arith, refl), e)
-Contains-unmap f (p ∷ points) m (suc k, lt, e) =
-    let rest = Contains-unmap f points m (k, omega arith, e) in
-    (rest.0, (suc rest.1.0, omega (arith, rest.1.1), rest.1.2), rest.2)
 
 side_of_member : (a b : List V3) (m : Vec4) → Contains (sides a b) m → IsSide (a ++ b) m
 side_of_member a b m h = go (Contains-append_cases (map within a) (map beyond b) m h)
@@ -163,15 +157,6 @@ product_nothing g s p n e = ap (λ (m : V3). dot4 g (times4 s (lifted (record { 
     out : (g : Vec4) (s : ℤ) (p : V3) → dot4 g (times4 s (lifted (record { n = record { x = pos 0; y = pos 0; z = pos 0 }; e = dot_of (record { x = pos 0; y = pos 0; z = pos 0 }) p }))) ≡ pos 0
     out = identity (vector4 ∷ number ∷ vector3 ∷ []) (λ g s p. term.dot4 g (term.times4 s (record { x = none; y = none; z = none; w = term.dot_of (record { x = none; y = none; z = none }) p })) ≣ none) tt
 
-All-split : (P : Vec4 → Type 0) (xs ys : List Vec4) → All P (xs ++ ys) → All P xs × All P ys
-All-split P xs ys h =
-    (λ k d lt. All-contains P (xs ++ ys) (get_or xs k d) h (Contains-append_left xs ys (get_or xs k d) (Contains-get_or xs k d lt)), λ k d lt. All-contains P (xs ++ ys) (get_or ys k d) h (Contains-append_right xs ys (get_or ys k d) (Contains-get_or ys k d lt)))
-
-All-of_map : (P : Vec4 → Type 0) (f : V3 → Vec4) (points : List V3) → All P (map f points) → All (λ p. P (f p)) points
-All-of_map P f [] h = All-nil (λ p. P (f p))
-All-of_map P f (p ∷ points) h =
-    All-cons (λ q. P (f q)) p points (All-head P (f p) (map f points) h) (All-of_map P f points (All-tail P (f p) (map f points) h))
-
 opposite-mul : (a : ℤ) → negsuc 0 *ℤ a ≡ pos 0 -ℤ a
 opposite-mul = identity (number ∷ []) (λ a. num (negsuc 0) ⊗ a ≣ none ⊖ a) tt
 
@@ -199,13 +184,13 @@ none_between a b h g spans is none = from (tilted (sides a b) g spans (lifted h)
         fails = none_passes (is_between a b) (a ++ b) o.p o.q o.r k none o.in_p o.in_q o.in_r e
 
         parts : IsAbove (map within a) w × IsAbove (map beyond b) w
-        parts = All-split (λ m. pos 0 ≤ℤ dot4 m w) (map within a) (map beyond b) isb.above
+        parts = All-append_parts (λ m. pos 0 ≤ℤ dot4 m w) (map within a) (map beyond b) isb.above
 
         in_a : All (λ x. pos 0 ≤ℤ dot4 (within x) w) a
-        in_a = All-of_map (λ m. pos 0 ≤ℤ dot4 m w) within a parts.0
+        in_a = All-from_map (λ m. pos 0 ≤ℤ dot4 m w) within a parts.0
 
         in_b : All (λ x. pos 0 ≤ℤ dot4 (beyond x) w) b
-        in_b = All-of_map (λ m. pos 0 ≤ℤ dot4 m w) beyond b parts.1
+        in_b = All-from_map (λ m. pos 0 ≤ℤ dot4 m w) beyond b parts.1
 
         is_side : (x : V3) → pos (divisor_of (normal_of o.p o.q o.r)) *ℤ side_of k x ≡ dot_of (normal_of o.p o.q o.r) (difference_of x o.p)
         is_side x = side_of-plane_through o.p o.q o.r k x e

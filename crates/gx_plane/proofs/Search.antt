@@ -35,7 +35,7 @@ pub supports_is : (h : HalfSpace) (points : List V3) (r : Bool) → (IsTrue r �
 supports_is h points r is =
     by_points (λ p. side_of h p ≤ℤ pos 0) (λ p. int_le (dot_of h.n p) h.e) points r (λ p. at_most (dot_of h.n p) h.e (side_of h p) refl) is
 
-dot_of-turned : (n p : V3) → dot_of (record { x = pos 0 -ℤ n.x; y = pos 0 -ℤ n.y; z = pos 0 -ℤ n.z }) p ≡ pos 0 -ℤ dot_of n p
+pub dot_of-turned : (n p : V3) → dot_of (record { x = pos 0 -ℤ n.x; y = pos 0 -ℤ n.y; z = pos 0 -ℤ n.z }) p ≡ pos 0 -ℤ dot_of n p
 dot_of-turned = identity (vector3 ∷ vector3 ∷ []) (λ n p. term.dot_of (record { x = none ⊖ n.x; y = none ⊖ n.y; z = none ⊖ n.z }) p ≣ none ⊖ term.dot_of n p) tt
 
 pub turned_supports_is : (h : HalfSpace) (points : List V3) (r : Bool) → (IsTrue r ↔ Supports (turned h) points) → r ≡ list_all (λ p. int_le h.e (dot_of h.n p)) points

@@ -1,4 +1,4 @@
--- The distinct points of a list have the list's members.
+-- The distinct elements of a list are its members.
 use Rattle.std.proofs.Common.{◌≡◌, ◌≤◌, Bool, true, false, ◌&&◌, List, [], ◌∷◌, length, pos, ◌≤ℤ◌, All, Contains, refl, sym, ap, ◌∙◌, arith}
 use Rattle.std.specs.Bool.{Decides}
 use Rattle.std.specs.List.{list_any}
@@ -11,7 +11,7 @@ use Rattle.gx_num.specs.declared.vector.V3.{V3}
 use Rattle.gx_num.specs.Space.{HalfSpace}
 use Rattle.gx_algebra.proofs.Identities.{same3}
 use Rattle.gx_plane.specs.Plane.{side_of}
-use Rattle.gx_shapes.specs.Points.{is_same, distinct_after, distinct}
+use Rattle.gx_shapes.specs.Points.{is_same, distinct_by, distinct}
 use Rattle.gx_shapes.specs.Hull.{IsBound, IsHullOf}
 
 pub Decides-is_same : (a b : V3) → Decides (is_same a b) (a ≡ b)
@@ -25,39 +25,38 @@ pub by_bool : {P : Type 0} (b : Bool) → (b ≡ true → P) → (b ≡ false �
 by_bool true hit miss = hit refl
 by_bool false hit miss = miss refl
 
--- ---- a point that was seen, and one that was not
-seen_is : (seen : List V3) (p : V3) (ps : List V3) → list_any (is_same p) seen ≡ true → distinct_after seen (p ∷ ps) ≡ distinct_after seen ps
-seen_is seen p ps e = cond-true (list_any (is_same p) seen) (distinct_after seen ps) (p ∷ distinct_after (p ∷ seen) ps) e
+module _ {X : Type 0} (same : X → X → Bool) where
+  -- an element that was seen, and one that was not
+  seen_is : (seen : List X) (x : X) (xs : List X) → list_any (same x) seen ≡ true → distinct_by same seen (x ∷ xs) ≡ distinct_by same seen xs
+  seen_is seen x xs e = cond-true (list_any (same x) seen) (distinct_by same seen xs) (x ∷ distinct_by same (x ∷ seen) xs) e
 
-new_is : (seen : List V3) (p : V3) (ps : List V3) → list_any (is_same p) seen ≡ false → distinct_after seen (p ∷ ps) ≡ p ∷ distinct_after (p ∷ seen) ps
-new_is seen p ps e = cond-false (list_any (is_same p) seen) (distinct_after seen ps) (p ∷ distinct_after (p ∷ seen) ps) e
+  new_is : (seen : List X) (x : X) (xs : List X) → list_any (same x) seen ≡ false → distinct_by same seen (x ∷ xs) ≡ x ∷ distinct_by same (x ∷ seen) xs
+  new_is seen x xs e = cond-false (list_any (same x) seen) (distinct_by same seen xs) (x ∷ distinct_by same (x ∷ seen) xs) e
 
--- what holds of all points holds of the distinct ones
-All-distinct_after : (P : V3 → Type 0) (seen ps : List V3) → All P ps → All P (distinct_after seen ps)
-All-distinct_after P seen [] h = h
-All-distinct_after P seen (p ∷ ps) h =
-    by_bool (list_any (is_same p) seen)
-    (λ e. rw (seen_is seen p ps e) (All-distinct_after P seen ps (All-tail P p ps h)))
-    (λ e. rw (new_is seen p ps e) (All-cons P p _ (All-head P p ps h) (All-distinct_after P (p ∷ seen) ps (All-tail P p ps h))))
+  -- what holds of all elements holds of the distinct ones
+  pub All-distinct_by : (P : X → Type 0) (seen xs : List X) → All P xs → All P (distinct_by same seen xs)
+  All-distinct_by P seen [] h = h
+  All-distinct_by P seen (x ∷ xs) h =
+      by_bool (list_any (same x) seen)
+      (λ e. rw (seen_is seen x xs e) (All-distinct_by P seen xs (All-tail P x xs h)))
+      (λ e. rw (new_is seen x xs e) (All-cons P x _ (All-head P x xs h) (All-distinct_by P (x ∷ seen) xs (All-tail P x xs h))))
 
--- and the other way, where it holds of those seen before
-All-from_distinct_after : (P : V3 → Type 0) (seen ps : List V3) → All P seen → All P (distinct_after seen ps) → All P ps
-All-from_distinct_after P seen [] s h = h
-All-from_distinct_after P seen (p ∷ ps) s h =
-    by_bool (list_any (is_same p) seen)
-    (λ e. All-cons P p ps
-    (All-contains P seen p s (Contains-from_any (λ a b. (Decides-is_same a b).0) p seen e))
-    (All-from_distinct_after P seen ps s (rw (seen_is seen p ps e) at h)))
-    (λ e.
-    let k = rw (new_is seen p ps e) at h in
-    let first : P p = All-head P p (distinct_after (p ∷ seen) ps) k in
-    All-cons P p ps first (All-from_distinct_after P (p ∷ seen) ps (All-cons P p seen first s) (All-tail P p (distinct_after (p ∷ seen) ps) k)))
+  -- and the other way, where it holds of those seen before
+  pub All-from_distinct_by : ((a b : X) → same a b ≡ true → a ≡ b) → (P : X → Type 0) (seen xs : List X) → All P seen → All P (distinct_by same seen xs) → All P xs
+  All-from_distinct_by equal P seen [] s h = h
+  All-from_distinct_by equal P seen (x ∷ xs) s h =
+      by_bool (list_any (same x) seen)
+      (λ e. All-cons P x xs (All-contains P seen x s (Contains-from_any equal x seen e)) (All-from_distinct_by equal P seen xs s (rw (seen_is seen x xs e) at h)))
+      (λ e.
+      let k = rw (new_is seen x xs e) at h in
+      let first : P x = All-head P x (distinct_by same (x ∷ seen) xs) k in
+      All-cons P x xs first (All-from_distinct_by equal P (x ∷ seen) xs (All-cons P x seen first s) (All-tail P x (distinct_by same (x ∷ seen) xs) k)))
 
 pub All-distinct : (P : V3 → Type 0) (ps : List V3) → All P ps → All P (distinct ps)
-All-distinct P ps h = All-distinct_after P [] ps h
+All-distinct P ps h = All-distinct_by is_same P [] ps h
 
 pub All-from_distinct : (P : V3 → Type 0) (ps : List V3) → All P (distinct ps) → All P ps
-All-from_distinct P ps h = All-from_distinct_after P [] ps (All-nil P) h
+All-from_distinct P ps h = All-from_distinct_by is_same (λ a b. (Decides-is_same a b).0) P [] ps (All-nil P) h
 
 pub Contains-distinct : (ps : List V3) (p : V3) → Contains ps p → Contains (distinct ps) p
 Contains-distinct ps p h =
@@ -68,25 +67,25 @@ Contains-from_distinct ps p h =
     All-contains (Contains ps) (distinct ps) p (All-distinct (Contains ps) ps (All-contains_itself ps)) h
 
 -- ---- distinct points stay as they are
-distinct_after-distinct_after : (seen ps : List V3) → distinct_after seen (distinct_after seen ps) ≡ distinct_after seen ps
-distinct_after-distinct_after seen [] = refl
-distinct_after-distinct_after seen (p ∷ ps) =
+distinct_by-distinct_by : (seen ps : List V3) → distinct_by is_same seen (distinct_by is_same seen ps) ≡ distinct_by is_same seen ps
+distinct_by-distinct_by seen [] = refl
+distinct_by-distinct_by seen (p ∷ ps) =
     by_bool (list_any (is_same p) seen)
-    (λ e. ap (distinct_after seen) (seen_is seen p ps e) ∙ distinct_after-distinct_after seen ps ∙ sym (seen_is seen p ps e))
-    (λ e. ap (distinct_after seen) (new_is seen p ps e) ∙ new_is seen p (distinct_after (p ∷ seen) ps) e ∙ ap (λ (qs : List V3). p ∷ qs) (distinct_after-distinct_after (p ∷ seen) ps) ∙ sym (new_is seen p ps e))
+    (λ e. ap (distinct_by is_same seen) (seen_is is_same seen p ps e) ∙ distinct_by-distinct_by seen ps ∙ sym (seen_is is_same seen p ps e))
+    (λ e. ap (distinct_by is_same seen) (new_is is_same seen p ps e) ∙ new_is is_same seen p (distinct_by is_same (p ∷ seen) ps) e ∙ ap (λ (qs : List V3). p ∷ qs) (distinct_by-distinct_by (p ∷ seen) ps) ∙ sym (new_is is_same seen p ps e))
 
 pub distinct-distinct : (ps : List V3) → distinct (distinct ps) ≡ distinct ps
-distinct-distinct ps = distinct_after-distinct_after [] ps
+distinct-distinct ps = distinct_by-distinct_by [] ps
 
-length-distinct_after_le : (seen ps : List V3) → length (distinct_after seen ps) ≤ length ps
-length-distinct_after_le seen [] = omega arith
-length-distinct_after_le seen (p ∷ ps) =
+length-distinct_by_le : (seen ps : List V3) → length (distinct_by is_same seen ps) ≤ length ps
+length-distinct_by_le seen [] = omega arith
+length-distinct_by_le seen (p ∷ ps) =
     by_bool (list_any (is_same p) seen)
-    (λ e. omega (arith, ap length (seen_is seen p ps e), length-distinct_after_le seen ps))
-    (λ e. omega (arith, ap length (new_is seen p ps e), length-distinct_after_le (p ∷ seen) ps))
+    (λ e. omega (arith, ap length (seen_is is_same seen p ps e), length-distinct_by_le seen ps))
+    (λ e. omega (arith, ap length (new_is is_same seen p ps e), length-distinct_by_le (p ∷ seen) ps))
 
 pub length-distinct_le : (ps : List V3) → length (distinct ps) ≤ length ps
-length-distinct_le ps = length-distinct_after_le [] ps
+length-distinct_le ps = length-distinct_by_le [] ps
 
 -- ---- the distinct vertices are those of the same solid
 pub IsHullOf-distinct : (solid : List HalfSpace) (ps : List V3) → IsHullOf solid ps → IsHullOf solid (distinct ps)

@@ -11,19 +11,17 @@ use Rattle.gx_algebra.proofs.Ring.{Term}
 use Rattle.gx_algebra.proofs.Terms as term
 use Rattle.gx_algebra.proofs.Terms.{Term3, ◌≣◌, ◌⊖◌, none}
 use Rattle.gx_algebra.proofs.Identity.{identity, vector3}
+use Rattle.gx_plane.proofs.Candidates.{normal_term}
 use Rattle.gx_plane.specs.Plane.{normal_of}
 use Rattle.gx_plane.specs.Between.{pairs_of, triples_of}
 use Rattle.gx_shapes.specs.Points.{is_level, is_flat, distinct}
-use Rattle.gx_shapes.proofs.Lists.{All-append_parts, All-from_map}
+use Rattle.gx_algebra.proofs.Lists.{All-append_parts, All-from_map}
 use Rattle.gx_shapes.proofs.Distinct.{All-distinct, All-from_distinct}
 use borrow.Author.Differences.{ints}
 
 -- six times the volume of a tetrahedron, with a sign
 abbrev pub volume : V3 → V3 → V3 → V3 → ℤ
 volume a b c p = dot_of (normal_of a b c) (difference_of p a)
-
-abbrev pub normal_term : Term3 → Term3 → Term3 → Term3
-normal_term a b c = term.cross_of (term.difference_of b a) (term.difference_of c a)
 
 abbrev pub volume_term : Term3 → Term3 → Term3 → Term3 → Term
 volume_term a b c p = term.dot_of (normal_term a b c) (term.difference_of p a)

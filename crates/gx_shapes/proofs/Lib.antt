@@ -3,7 +3,6 @@ pub mod Bounds
 pub mod Distinct
 pub mod Flatness
 mod KnownShapes
-pub mod Lists
 pub mod Solids
 pub mod Tetrahedra
 pub mod Trapezoids

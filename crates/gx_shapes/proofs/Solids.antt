@@ -13,7 +13,7 @@ use Rattle.gx_shapes.proofs.Distinct.{IsHullOf-distinct}
 use Rattle.gx_shapes.proofs.Flatness.{is_flat-distinct}
 use Rattle.gx_shapes.proofs.Tetrahedra.{tetrahedron_hull, tetrahedron_apart}
 use Rattle.gx_shapes.proofs.Trapezoids.{frustum, box_hull, trapezoid_hull, frustum_solid}
-use Rattle.gx_shapes.proofs.Lists.{All-four}
+use Rattle.gx_algebra.proofs.Lists.{All-four}
 use borrow.Author.Differences.{ints}
 
 -- ---- the vertices are those of the solid

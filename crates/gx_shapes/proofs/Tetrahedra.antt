@@ -10,14 +10,16 @@ use Rattle.gx_algebra.proofs.Terms as term
 use Rattle.gx_algebra.proofs.Terms.{Term3, Term4, TermHalfSpace, ◌≣◌, ◌⊕◌, ◌⊖◌, ◌⊗◌, none}
 use Rattle.gx_algebra.proofs.Identity.{identity, number, vector3, vector4, half_space}
 use Rattle.gx_algebra.proofs.Order.{mul_nonneg, mul_nonneg_nonpos, neg-mul-neg, square_pos, le_of_mul-le-left}
+use Rattle.gx_plane.proofs.Search.{dot_of-turned}
 use Rattle.gx_plane.specs.Plane.{side_of, turned, normal_of, is_zero}
 use Rattle.gx_plane.proofs.PlaneFacts.{side_of-turned}
 use Rattle.gx_shapes.specs.Points.{is_flat}
 use Rattle.gx_shapes.specs.Shape.{inner, tetrahedron}
 use Rattle.gx_shapes.specs.Hull.{IsAtMost, IsBound, IsHullOf}
 use Rattle.gx_shapes.proofs.Bounds.{All-is_in, not_is_zero}
-use Rattle.gx_shapes.proofs.Flatness.{volume, normal_term, volume_term, volume_swap_third, AreLevel, Decides-triples}
-use Rattle.gx_shapes.proofs.Lists.{All-four}
+use Rattle.gx_plane.proofs.Candidates.{normal_term}
+use Rattle.gx_shapes.proofs.Flatness.{volume, volume_term, volume_swap_third, AreLevel, Decides-triples}
+use Rattle.gx_algebra.proofs.Lists.{All-four}
 use borrow.Author.Differences.{ints}
 
 abbrev plane_of : V3 → V3 → V3 → HalfSpace
@@ -63,9 +65,6 @@ record IsInner (a b c d : V3) (h : HalfSpace) : Type 0 where
   fourth : side_of h d ≤ℤ pos 0
   plane : volume a b c d ≢ pos 0 → is_zero h.n ≡ false
   same_side : (p : Vec4) → IsAtMost h p → pos 0 ≤ℤ (volume a b c d *ℤ excess (plane_of a b c) p)
-
-dot_of-turned : (n d : V3) → dot_of (record { x = pos 0 -ℤ n.x; y = pos 0 -ℤ n.y; z = pos 0 -ℤ n.z }) d ≡ pos 0 -ℤ dot_of n d
-dot_of-turned = identity (vector3 ∷ vector3 ∷ []) (λ n d. term.dot_of (record { x = none ⊖ n.x; y = none ⊖ n.y; z = none ⊖ n.z }) d ≣ none ⊖ term.dot_of n d) tt
 
 excess-turned : (h : HalfSpace) (p : Vec4) → excess (turned h) p ≡ pos 0 -ℤ excess h p
 excess-turned = identity (half_space ∷ vector4 ∷ []) (λ h p. excess_term (record { n = record { x = none ⊖ h.n.x; y = none ⊖ h.n.y; z = none ⊖ h.n.z }; e = none ⊖ h.e }) p ≣ none ⊖ excess_term h p) tt

@@ -16,7 +16,7 @@ use Rattle.gx_shapes.specs.Hull.{IsAtMost, IsBound, IsHullOf}
 use Rattle.gx_shapes.proofs.Bounds.{All-is_in, not_is_zero}
 use Rattle.gx_shapes.proofs.Distinct.{by_bool}
 use Rattle.gx_shapes.proofs.Flatness.{volume, volume_term, IsCoplanar, Decides-is_flat}
-use Rattle.gx_shapes.proofs.Lists.{All-four, All-append_parts}
+use Rattle.gx_algebra.proofs.Lists.{All-four, All-append_parts}
 use borrow.Author.Differences.{ints}
 
 -- the absolute value
