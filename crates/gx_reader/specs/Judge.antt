@@ -1,5 +1,5 @@
 -- How a word is read by its place in a line, and how the words of a line are judged from the left.
-use Rattle.std.specs.Prelude.{ℕ, ◌+◌, ℤ, pos, Bool, ◌==◌, ◌&&◌, ◌||◌, not, nat_le, if◌then◌else◌, List, [], ◌∷◌, ◌++◌, map, drop, length, codes, Option, None, Some, Result, Ok, Err}
+use Rattle.std.specs.Prelude.{ℕ, ◌+◌, ℤ, pos, Bool, ◌==◌, ◌&&◌, not, nat_le, if◌then◌else◌, List, [], ◌∷◌, ◌++◌, map, drop, length, codes, Option, None, Some, Result, Ok, Err}
 use Rattle.std.specs.List.{list_all}
 use Rattle.std.specs.Str.{bytes_eq}
 use Rattle.gx_fraction.specs.Fraction.{Fraction}
@@ -15,6 +15,7 @@ use Rattle.gx_expr.specs.declared.fault.StepFault.{StepFault}
 use Rattle.gx_expr.specs.declared.fault.StepFault.TheVariants.{UnitKind, OffGrid, TooFar}
 use Rattle.gx_expr.specs.Worth.{Worth}
 use Rattle.gx_expr.specs.Param.{Param}
+use Rattle.gx_expr.specs.Tree.{is_name_byte}
 use Rattle.gx_expr.specs.Eval.{evaluated}
 use Rattle.gx_expr.specs.Convert.{steps}
 use Rattle.gx_reader.specs.declared.fault.WordFault.{WordFault}
@@ -39,12 +40,9 @@ name_of_step TooFar = TooFarName
 
 -- ---- one word
 
--- 1 to 255 letters, digits and `_` (95)
-abbrev pub is_param_byte : ℕ → Bool
-is_param_byte b = (nat_le 48 b && nat_le b 57) || (nat_le 65 b && nat_le b 90) || (nat_le 97 b && nat_le b 122) || b == 95
-
+-- 1 to 255 letters, digits and `_`
 abbrev pub is_param_name : List ℕ → Bool
-is_param_name word = not (length word == 0) && nat_le (length word) 255 && list_all is_param_byte word
+is_param_name word = not (length word == 0) && nat_le (length word) 255 && list_all is_name_byte word
 
 abbrev pub nothing_if : Bool → Result Given FaultName
 nothing_if good = if good then Ok Nothing else Err NotBuilt

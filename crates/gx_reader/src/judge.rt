@@ -2,7 +2,8 @@ ghost use Rattle.std.specs.Prelude.{◌≡◌, ◌≤◌, [], drop, length, IfOk
 ghost use Rattle.std.specs.List.{list_all};
 ghost use Rattle.gx_num.specs.declared.vector.TheConstants.{M};
 ghost use Rattle.gx_expr.specs.Eval.{evaluated};
-ghost use Rattle.gx_reader.specs.Judge.{name_of_expr, name_of_step, is_param_byte as is_param_byte_of, is_param_name as is_param_name_of, nothing_if, steps_of, number_in, values_in, unless_fault, as_value, as_steps, as_extent, kind_of, as_kind, at_word, verdict as verdict_of, judged_from};
+ghost use Rattle.gx_expr.specs.Tree.{is_name_byte};
+ghost use Rattle.gx_reader.specs.Judge.{name_of_expr, name_of_step, is_param_name as is_param_name_of, nothing_if, steps_of, number_in, values_in, unless_fault, as_value, as_steps, as_extent, kind_of, as_kind, at_word, verdict as verdict_of, judged_from};
 ghost use Rattle.gx_shapes.specs.Shape.{first_fault};
 ghost use Rattle.gx_reader.specs.Given.{Fits, IsCauseAt};
 
@@ -71,16 +72,16 @@ fn step_name(fault: StepFault) -> FaultName
 }
 
 fn is_param_byte(byte: u8) -> bool
-    ensures { result ≡ is_param_byte_of byte }
+    ensures { result ≡ is_name_byte byte }
 {
-    (byte >= b'0' && byte <= b'9')
-        || (byte >= b'A' && byte <= b'Z')
+    (byte >= b'A' && byte <= b'Z')
         || (byte >= b'a' && byte <= b'z')
+        || (byte >= b'0' && byte <= b'9')
         || byte == b'_'
 }
 
 fn are_param_bytes(word: &[u8]) -> bool
-    ensures { result ≡ list_all is_param_byte_of word.now }
+    ensures { result ≡ list_all is_name_byte word.now }
 {
     word.iter().all(|byte| is_param_byte(*byte))
 }
