@@ -10,19 +10,19 @@ use Rattle.gx_shapes.specs.Shape.{IsShape}
 use Rattle.gx_io.specs.Bytes.{with_after, AppendsFront}
 use Rattle.gx_io.proofs.Joined.{with_after-twice, with_after-nothing, front-of_first, front-of_second}
 use Rattle.gx_path.specs.Report.{Row, IsReport}
-use Rattle.gx_reader.specs.Rays.{IsKept}
+use Rattle.gx_reader.specs.Rays.{IsTraceable}
 use Rattle.gx_tree.specs.World.{World, place_on}
 use Rattle.g4exact.specs.Output.{ray_text, IsTrace}
 
 -- each of the rays has a report
-traced_all : (world : World) → IsShape world.solid → (number : ℕ) (rays : List Ray) → AllByRecursion IsKept rays → (bytes : List ℕ) × IsTrace world number rays bytes
+traced_all : (world : World) → IsShape world.solid → (number : ℕ) (rays : List Ray) → AllByRecursion IsTraceable rays → (bytes : List ℕ) × IsTrace world number rays bytes
 traced_all world shape number [] kept = ([], refl)
 traced_all world shape number (ray ∷ rays) kept =
     let report = report_of world ray shape kept.0.moves in
     let rest = traced_all world shape (number + 1) rays kept.1 in
     (ray_text world number report.0 ++ rest.0, (report.0, rest.0, report.1, rest.1, refl))
 
-kept_after : (i : ℕ) (rays : List Ray) → AllByRecursion IsKept rays → AllByRecursion IsKept (drop i rays)
+kept_after : (i : ℕ) (rays : List Ray) → AllByRecursion IsTraceable rays → AllByRecursion IsTraceable (drop i rays)
 kept_after zero rays kept = kept
 kept_after (suc i) [] kept = kept
 kept_after (suc i) (ray ∷ rays) kept = kept_after i rays kept.1
@@ -54,7 +54,7 @@ module _ (world : World) (rays : List Ray) (i : ℕ) (old mid new : Option (List
         (so_far.goes_on (ray_text world (i + 1) rows ++ rest) (next world rays i ray at rows report rest trace));
   }
 
-  pub traced_front : IsShape world.solid → AllByRecursion IsKept rays → AppendsFront mid new (ray_text world (i + 1) rows)
+  pub traced_front : IsShape world.solid → AllByRecursion IsTraceable rays → AppendsFront mid new (ray_text world (i + 1) rows)
       → (bytes : List ℕ) × IsTrace world 1 rays bytes × AppendsFront old new bytes
   traced_front shape kept stopped =
       let rest = traced_all world shape (i + 1 + 1) (drop (i + 1) rays) (kept_after (i + 1) rays kept) in

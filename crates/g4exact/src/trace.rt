@@ -1,6 +1,6 @@
 ghost use Rattle.std.specs.Prelude.{◌≡◌, List, ℕ};
 ghost use Rattle.gx_io.specs.Bytes.{HasCause, Writes};
-ghost use Rattle.gx_reader.specs.Rays.{IsKept};
+ghost use Rattle.gx_reader.specs.Rays.{IsTraceable};
 ghost use Rattle.gx_reader.specs.Reading.{reading};
 ghost use Rattle.gx_shapes.specs.Shape.{IsShape};
 ghost use Rattle.gx_tree.specs.World.{place_on};
@@ -45,7 +45,7 @@ fn print_report<K: Sink>(
     ray: &Ray,
     sink: &mut K,
 ) -> Result<(), Failed>
-    requires { IsKept ray.now }
+    requires { IsTraceable ray.now }
     ensures shape { IsShape tree.now.solid }
     ensures bytes { (rows : List Row) × IsReport (place_on tree.now ray.now) rows × Writes (K.written sink.old) (K.written sink.new) (ray_text tree.now number rows) result }
     ensures cause { HasCause (K.faults sink.old) (K.faults sink.new) result }

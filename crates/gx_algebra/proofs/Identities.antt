@@ -2,9 +2,10 @@
 use Rattle.std.proofs.Common.{◌≡◌, ℕ, [], ◌∷◌, ℤ, pos, ◌+ℤ◌, ◌-ℤ◌, ◌*ℤ◌}
 use Rattle.gx_num.specs.declared.vector.V3.{V3}
 use Rattle.gx_num.specs.declared.ray.Ray.{Ray}
-use Rattle.gx_num.specs.Space.{Vec4, HalfSpace, height, point_of_ray}
-use Rattle.gx_num.specs.Vector.{dot_of}
-use Rattle.gx_algebra.specs.Vectors.{cross_of, det3, times3, difference_of, origin, dot4, plus4, times4, opposite4, det4, minors}
+use Rattle.gx_num.specs.Space.{HalfSpace, normal_dot}
+use Rattle.gx_num.specs.Vector4.{Vec4, origin, dot4, plus4, times4, opposite4, det4, minors}
+use Rattle.gx_num.specs.Ray.{point_of_ray}
+use Rattle.gx_num.specs.Vector.{dot_of, cross_of, times3, difference_of}
 use Rattle.gx_algebra.proofs.Terms as term
 use Rattle.gx_algebra.proofs.Terms.{◌≣◌, ◌≣³◌, ◌⊕◌, ◌⊖◌, ◌⊗◌, none}
 use Rattle.gx_algebra.proofs.Identity.{identity, identity3, number, natural, vector3, vector4, half_space, ray}
@@ -17,29 +18,6 @@ pub same4 : (a b : Vec4) → a.x ≡ b.x → a.y ≡ b.y → a.z ≡ b.z → a.w
 same4 a b p q r s = λ i. record { x = p i; y = q i; z = r i; w = s i }
 
 -- ---- three numbers
--- a vector product is orthogonal to its factors
-pub dot_of-cross_of_left : (a b : V3) → dot_of a (cross_of a b) ≡ pos 0
-dot_of-cross_of_left = identity (vector3 ∷ vector3 ∷ []) (λ a b. term.dot_of a (term.cross_of a b) ≣ none) tt
-
-pub dot_of-cross_of_right : (a b : V3) → dot_of b (cross_of a b) ≡ pos 0
-dot_of-cross_of_right = identity (vector3 ∷ vector3 ∷ []) (λ a b. term.dot_of b (term.cross_of a b) ≣ none) tt
-
--- the triple product turns round
-pub det3_turn : (a b c : V3) → det3 a b c ≡ det3 b c a
-det3_turn = identity (vector3 ∷ vector3 ∷ vector3 ∷ []) (λ a b c. term.det3 a b c ≣ term.det3 b c a) tt
-
--- a x (b x c) = (a . c) b - (a . b) c
-pub cross_of-cross_of : (a b c : V3) → cross_of a (cross_of b c) ≡ difference_of (times3 (dot_of a c) b) (times3 (dot_of a b) c)
-cross_of-cross_of = identity3 (vector3 ∷ vector3 ∷ vector3 ∷ []) (λ a b c. term.cross_of a (term.cross_of b c) ≣³ term.difference_of (term.times3 (term.dot_of a c) b) (term.times3 (term.dot_of a b) c)) tt
-
--- |a x b|^2 = |a|^2 |b|^2 - (a . b)^2
-pub dot_of-cross_of_same : (a b : V3) → dot_of (cross_of a b) (cross_of a b) ≡ (dot_of a a *ℤ dot_of b b) -ℤ (dot_of a b *ℤ dot_of a b)
-dot_of-cross_of_same = identity (vector3 ∷ vector3 ∷ []) (λ a b. term.dot_of (term.cross_of a b) (term.cross_of a b) ≣ term.dot_of a a ⊗ term.dot_of b b ⊖ term.dot_of a b ⊗ term.dot_of a b) tt
-
--- the relation of Plücker: the first vector of the second determinant goes through the places of the first
-pub det3_exchange : (a b c d e f : V3) → det3 a b c *ℤ det3 d e f ≡ (det3 d b c *ℤ det3 a e f +ℤ det3 a d c *ℤ det3 b e f) +ℤ det3 a b d *ℤ det3 c e f
-det3_exchange = identity (vector3 ∷ vector3 ∷ vector3 ∷ vector3 ∷ vector3 ∷ vector3 ∷ []) (λ a b c d e f. term.det3 a b c ⊗ term.det3 d e f ≣ (term.det3 d b c ⊗ term.det3 a e f ⊕ term.det3 a d c ⊗ term.det3 b e f) ⊕ term.det3 a b d ⊗ term.det3 c e f) tt
-
 -- ---- four numbers
 pub dot4_comm : (a b : Vec4) → dot4 a b ≡ dot4 b a
 dot4_comm = identity (vector4 ∷ vector4 ∷ []) (λ a b. term.dot4 a b ≣ term.dot4 b a) tt
@@ -66,23 +44,10 @@ dot4-minors_second = identity (vector4 ∷ vector4 ∷ vector4 ∷ []) (λ a b c
 pub dot4-minors_third : (a b c : Vec4) → dot4 c (minors a b c) ≡ pos 0
 dot4-minors_third = identity (vector4 ∷ vector4 ∷ vector4 ∷ []) (λ a b c. term.dot4 c (term.minors a b c) ≣ none) tt
 
-pub det4_equal : (a b c : Vec4) → det4 a b b c ≡ pos 0
-det4_equal = identity (vector4 ∷ vector4 ∷ vector4 ∷ []) (λ a b c. term.det4 a b b c ≣ none) tt
-
--- a determinant along its second, third and fourth row
-pub det4_second : (a b c d : Vec4) → det4 a b c d ≡ pos 0 -ℤ dot4 b (minors a c d)
-det4_second = identity (vector4 ∷ vector4 ∷ vector4 ∷ vector4 ∷ []) (λ a b c d. term.det4 a b c d ≣ none ⊖ term.dot4 b (term.minors a c d)) tt
-
-pub det4_third : (a b c d : Vec4) → det4 a b c d ≡ dot4 c (minors a b d)
-det4_third = identity (vector4 ∷ vector4 ∷ vector4 ∷ vector4 ∷ []) (λ a b c d. term.det4 a b c d ≣ term.dot4 c (term.minors a b d)) tt
-
-pub det4_fourth : (a b c d : Vec4) → det4 a b c d ≡ pos 0 -ℤ dot4 d (minors a b c)
-det4_fourth = identity (vector4 ∷ vector4 ∷ vector4 ∷ vector4 ∷ []) (λ a b c d. term.det4 a b c d ≣ none ⊖ term.dot4 d (term.minors a b c)) tt
-
 -- five vectors of four numbers, by their products with a sixth (the rule of Cramer)
 pub cramer : (a b c g p v : Vec4) → ((dot4 g (minors a b c) *ℤ dot4 p v -ℤ dot4 p (minors a b c) *ℤ dot4 g v) +ℤ (det4 p g b c *ℤ dot4 a v)) +ℤ (det4 p g c a *ℤ dot4 b v +ℤ det4 p g a b *ℤ dot4 c v) ≡ pos 0
 cramer = identity (vector4 ∷ vector4 ∷ vector4 ∷ vector4 ∷ vector4 ∷ vector4 ∷ []) (λ a b c g p v. ((term.dot4 g (term.minors a b c) ⊗ term.dot4 p v ⊖ term.dot4 p (term.minors a b c) ⊗ term.dot4 g v) ⊕ (term.det4 p g b c ⊗ term.dot4 a v)) ⊕ (term.det4 p g c a ⊗ term.dot4 b v ⊕ term.det4 p g a b ⊗ term.dot4 c v) ≣ none) tt
 
 -- ---- inequalities at the points of a ray
-pub height-point_of_ray : (h : HalfSpace) (r : Ray) (p q : ℕ) → height h (point_of_ray r (record { num = p; den = q })) ≡ pos q *ℤ dot_of h.n r.o +ℤ pos p *ℤ dot_of h.n r.d
-height-point_of_ray = identity (half_space ∷ ray ∷ natural ∷ natural ∷ []) (λ h r p q. term.height h (term.point_of_ray r p q) ≣ q ⊗ term.dot_of h.n r.o ⊕ p ⊗ term.dot_of h.n r.d) tt
+pub normal_dot-point_of_ray : (h : HalfSpace) (r : Ray) (p q : ℕ) → normal_dot h (point_of_ray r (record { num = p; den = q })) ≡ pos q *ℤ dot_of h.n r.o +ℤ pos p *ℤ dot_of h.n r.d
+normal_dot-point_of_ray = identity (half_space ∷ ray ∷ natural ∷ natural ∷ []) (λ h r p q. term.normal_dot h (term.point_of_ray r p q) ≣ q ⊗ term.dot_of h.n r.o ⊕ p ⊗ term.dot_of h.n r.d) tt

@@ -4,7 +4,8 @@
 use Rattle.std.proofs.Common.{◌≡◌, ℕ, ◌+◌, Bool, ◌&&◌, List, [], ◌∷◌, ◌++◌, ℤ, pos, T}
 use Rattle.gx_num.specs.declared.vector.V3.{V3}
 use Rattle.gx_num.specs.declared.ray.Ray.{Ray}
-use Rattle.gx_num.specs.Space.{Vec4, HalfSpace}
+use Rattle.gx_num.specs.Space.{HalfSpace}
+use Rattle.gx_num.specs.Vector4.{Vec4}
 use Rattle.gx_algebra.proofs.Ring.{Term, var, val, same, ring, T_and}
 use Rattle.gx_algebra.proofs.Terms.{Equation, Term3, Term4, TermHalfSpace, TermRay, Equation3, Equation4}
 

@@ -2,17 +2,8 @@
 use Rattle.std.proofs.Common.{◌≡◌, ℕ, ◌*◌, ℤ, pos, ◌+ℤ◌, ◌*ℤ◌, neg_ℤ, ap, arith}
 use borrow.Author.Differences.{ints, up, down, sum_is_lem, neg_is, product_is}
 
-pub add_assoc : (a b c : ℤ) → (a +ℤ b) +ℤ c ≡ a +ℤ (b +ℤ c)
-add_assoc a b c = omega (arith, ints)
-
-pub add_comm : (a b : ℤ) → a +ℤ b ≡ b +ℤ a
-add_comm a b = omega (arith, ints)
-
 pub zero-add : (a : ℤ) → pos 0 +ℤ a ≡ a
 zero-add a = omega (arith, ints)
-
-pub add-zero : (a : ℤ) → a +ℤ pos 0 ≡ a
-add-zero a = omega (arith, ints)
 
 pub mul_comm : (a b : ℤ) → a *ℤ b ≡ b *ℤ a
 mul_comm a b = omega (arith, ints)

@@ -17,9 +17,6 @@ neg-mul-neg = identity (number ∷ number ∷ []) (λ a b. opp a ⊗ opp b ≣ a
 pub mul-neg : (a b : ℤ) → a *ℤ neg_ℤ b ≡ neg_ℤ (a *ℤ b)
 mul-neg = identity (number ∷ number ∷ []) (λ a b. a ⊗ opp b ≣ opp (a ⊗ b)) tt
 
-pub mul_reverse : (a b c : ℤ) → a *ℤ (b *ℤ c) ≡ c *ℤ (b *ℤ a)
-mul_reverse = identity (number ∷ number ∷ number ∷ []) (λ a b c. a ⊗ (b ⊗ c) ≣ c ⊗ (b ⊗ a)) tt
-
 -- ---- signs
 pub mul_nonneg : (a b : ℤ) → pos 0 ≤ℤ a → pos 0 ≤ℤ b → pos 0 ≤ℤ (a *ℤ b)
 mul_nonneg (pos a) (pos b) h k = omega (arith, ints)
@@ -96,25 +93,3 @@ pos_of_mul c a h k = by_lt_z (pos 0) a (λ lt. lt) (λ le. absurd (omega (arith,
 
 pub zero_of_mul : (c a : ℤ) → pos 0 <ℤ c → c *ℤ a ≡ pos 0 → a ≡ pos 0
 zero_of_mul c a h e = by_sign a (λ n. absurd (omega (arith, ints, mul_pos_neg c a h n))) (λ z. z) (λ p. absurd (omega (arith, ints, mul_pos c a h p)))
-
--- ---- fractions by cross products: p/q, r/s and t/u with denominators above 0
-pub fraction-le_trans : (p q r s t u : ℤ) → pos 0 <ℤ q → pos 0 <ℤ s → pos 0 <ℤ u → (p *ℤ s) ≤ℤ (r *ℤ q) → (r *ℤ u) ≤ℤ (t *ℤ s) → (p *ℤ u) ≤ℤ (t *ℤ q)
-fraction-le_trans p q r s t u hq hs hu h k =
-    le_of_mul-le-left s (p *ℤ u) (t *ℤ q) hs
-    (omega (arith, ints, mul-le-left u (p *ℤ s) (r *ℤ q) (omega (arith, ints)) h, mul-le-left q (r *ℤ u) (t *ℤ s) (omega (arith, ints)) k, mul_reverse s p u, mul_reverse u r q, mul_reverse q t s))
-
-pub fraction-lt-le_trans : (p q r s t u : ℤ) → pos 0 <ℤ q → pos 0 <ℤ s → pos 0 <ℤ u → (p *ℤ s) <ℤ (r *ℤ q) → (r *ℤ u) ≤ℤ (t *ℤ s) → (p *ℤ u) <ℤ (t *ℤ q)
-fraction-lt-le_trans p q r s t u hq hs hu h k =
-    lt_of_mul-lt-left s (p *ℤ u) (t *ℤ q) (omega (arith, ints))
-    (omega (arith, ints, mul-lt-left u (p *ℤ s) (r *ℤ q) hu h, mul-le-left q (r *ℤ u) (t *ℤ s) (omega (arith, ints)) k, mul_reverse s p u, mul_reverse u r q, mul_reverse q t s))
-
--- a fraction in other terms keeps its order to r/s
-pub fraction-le_same : (p q r s k : ℤ) → pos 0 <ℤ k → ((k *ℤ p) *ℤ s) ≤ℤ (r *ℤ (k *ℤ q)) → (p *ℤ s) ≤ℤ (r *ℤ q)
-fraction-le_same p q r s k h e =
-    le_of_mul-le-left k (p *ℤ s) (r *ℤ q) h (omega (arith, ints, left k p s, right k r q))
-  where
-    left : (k p s : ℤ) → (k *ℤ p) *ℤ s ≡ k *ℤ (p *ℤ s)
-    left = identity (number ∷ number ∷ number ∷ []) (λ k p s. (k ⊗ p) ⊗ s ≣ k ⊗ (p ⊗ s)) tt
-
-    right : (k r q : ℤ) → r *ℤ (k *ℤ q) ≡ k *ℤ (r *ℤ q)
-    right = identity (number ∷ number ∷ number ∷ []) (λ k r q. r ⊗ (k ⊗ q) ≣ k ⊗ (r ⊗ q)) tt

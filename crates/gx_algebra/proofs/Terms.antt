@@ -70,9 +70,6 @@ cross_of a b = record {
   z = (a.x ⊗ b.y) ⊖ (a.y ⊗ b.x);
 }
 
-abbrev pub det3 : Term3 → Term3 → Term3 → Term
-det3 a b c = dot_of a (cross_of b c)
-
 abbrev pub times3 : Term → Term3 → Term3
 times3 k v = record { x = k ⊗ v.x; y = k ⊗ v.y; z = k ⊗ v.z }
 
@@ -106,8 +103,8 @@ abbrev pub origin : Term4
 origin = record { x = none; y = none; z = none; w = none }
 
 -- of gx_num's half-spaces and rays
-abbrev pub height : TermHalfSpace → Term4 → Term
-height h p = (h.n.x ⊗ p.x ⊕ h.n.y ⊗ p.y) ⊕ h.n.z ⊗ p.z
+abbrev pub normal_dot : TermHalfSpace → Term4 → Term
+normal_dot h p = (h.n.x ⊗ p.x ⊕ h.n.y ⊗ p.y) ⊕ h.n.z ⊗ p.z
 
 abbrev pub point_of_ray : TermRay → Term → Term → Term4
 point_of_ray ray p q = record {

@@ -7,7 +7,7 @@ use Rattle.std.proofs.lemmas.Int.{ints}
 use Rattle.std.proofs.lemmas.Nat.{mul-le, pow-add}
 use Rattle.std.proofs.lemmas.Nat.Gcd.{IsGcd-from_mod, IsGcd-from_zero, IsGcd-swap}
 use Rattle.gx_num.specs.Number.{common_divisor}
-use Rattle.gx_num.proofs.Greatest.{common_divisor-is}
+use Rattle.gx_num.proofs.Divisors.{common_divisor-same, IsDivisor-two}
 use Rattle.gx_fraction.specs.Fraction.{Fraction, lowest}
 use Rattle.gx_expr.specs.declared.digits.Digits.{Digits}
 use Rattle.gx_expr.specs.declared.exponent.TheConstants.{MOST}
@@ -35,11 +35,11 @@ few_digits n count h g = omega (arith, pow-le-pow_right {n = 10} (omega arith) g
 
 -- ---- ratios of which one number is 1
 
-pub common_one : (n : ℕ) → common_divisor n 1 ≡ 1
-common_one n = common_divisor-is n 1 1 (omega arith) (omega arith) (IsGcd-from_mod n 1 1 (IsGcd-from_zero 1 (n % 1) (omega arith)))
+pub common_one : (n : ℕ) → common_divisor (n ∷ 1 ∷ []) ≡ 1
+common_one n = common_divisor-same (n ∷ 1 ∷ []) 1 (IsDivisor-two n 1 1 (IsGcd-from_mod n 1 1 (IsGcd-from_zero 1 (n % 1) (omega arith))))
 
-pub one_common : (d : ℕ) → 0 < d → common_divisor 1 d ≡ 1
-one_common d h = common_divisor-is 1 d 1 h (omega arith) (IsGcd-swap d 1 1 (IsGcd-from_mod d 1 1 (IsGcd-from_zero 1 (d % 1) (omega arith))))
+pub one_common : (d : ℕ) → 0 < d → common_divisor (1 ∷ d ∷ []) ≡ 1
+one_common d h = common_divisor-same (1 ∷ d ∷ []) 1 (IsDivisor-two 1 d 1 (IsGcd-swap d 1 1 (IsGcd-from_mod d 1 1 (IsGcd-from_zero 1 (d % 1) (omega arith)))))
 
 lowest_whole : (n : ℕ) → lowest (pos n) 1 ≡ record { num = pos n; den = 1 }
 lowest_whole n = rw (common_one n) (ap (λ (x : ℕ). let f : Fraction = record { num = pos x; den = 1 } in f) (div-one n))

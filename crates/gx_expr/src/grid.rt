@@ -1,6 +1,6 @@
 ghost use Rattle.std.specs.Prelude.{◌≡◌, ◌<ℤ◌, pos, None, Some, if◌then◌else◌};
 ghost use Rattle.gx_expr.specs.Convert.{is_grid};
-ghost use Rattle.gx_expr.specs.Kept.{IsKept};
+ghost use Rattle.gx_expr.specs.Narrow.{IsNarrow};
 
 use crate::Value;
 use gx_fraction::Frac;
@@ -14,7 +14,7 @@ pub struct Grid {
 
 impl Model for Grid {
     ghost use Rattle.gx_fraction.specs.Fraction.{Fraction};
-    ghost use Rattle.gx_expr.specs.Kept.{IsGrid};
+    ghost use Rattle.gx_expr.specs.Narrow.{IsGrid};
 
     ghost Value = { Fraction };
 
@@ -55,7 +55,7 @@ impl Grid {
     /// The step, in millimetres.
     pub fn size(&self) -> Frac
         ensures value { result ≡ self.now }
-        ensures kept { IsKept result }
+        ensures kept { IsNarrow result }
         ensures positive { pos 0 <ℤ result.num }
     {
         self.size

@@ -1,5 +1,5 @@
 ghost use Rattle.std.specs.Prelude.{◌≡◌, ◌<◌, ◌≤◌, ◌^◌, ◌≢◌, pos, unsigned_abs, ◌<ℤ◌, ◌+ℤ◌, ◌-ℤ◌, ◌*ℤ◌};
-ghost use Rattle.gx_expr.specs.Kept.{IsKept};
+ghost use Rattle.gx_expr.specs.Narrow.{IsNarrow};
 
 use crate::ExprFault;
 use crate::product::times;
@@ -16,14 +16,14 @@ pub struct Value {
 }
 
 impl Model for Value {
-    ghost use Rattle.gx_expr.specs.Kept.{IsKept};
+    ghost use Rattle.gx_expr.specs.Narrow.{IsNarrow};
     ghost use Rattle.gx_expr.specs.Worth.{Worth};
 
     ghost Value = { Worth };
 
     ghost view = { λ v. record { number = v.number; length = v.length; angle = v.angle } };
 
-    ghost invariant = { λ v. IsKept v.number };
+    ghost invariant = { λ v. IsNarrow v.number };
 
     ghost inverse = { λ w. record { number = w.number; length = w.length; angle = w.angle } };
 }
@@ -76,7 +76,7 @@ impl Value {
     /// The fraction, without the marks.
     pub fn number(&self) -> Frac
         ensures value { result ≡ self.now.number }
-        ensures kept { IsKept result }
+        ensures kept { IsNarrow result }
     {
         self.number
     }

@@ -1,5 +1,5 @@
 -- What division by the greatest common divisor makes of a fraction.
-use Rattle.std.proofs.Common.{◌≡◌, ℕ, ℤ, pos, negsuc, neg_ℤ, zero, suc, ◌*◌, ◌/◌, ◌<◌, ◌≤◌, ◌^◌, ◌*ℤ◌, refl, sym, subst, ap, ◌∙◌, arith, unsigned_abs}
+use Rattle.std.proofs.Common.{◌≡◌, ℕ, ℤ, pos, negsuc, neg_ℤ, zero, suc, ◌*◌, ◌/◌, ◌<◌, ◌≤◌, ◌^◌, ◌*ℤ◌, refl, sym, subst, ap, ◌∙◌, arith, unsigned_abs, [], ◌∷◌}
 use Rattle.std.specs.Prelude.{if◌then◌else◌, int_lt, nat_lt, false}
 use Rattle.std.specs.Int.{IsGcd}
 use Rattle.std.proofs.Math.Nat.{div-mul_cancel}
@@ -11,8 +11,8 @@ use Rattle.std.proofs.lemmas.Bool.Decides.{nat_tests}
 use Rattle.std.proofs.lemmas.Nat.{mul-le}
 use Rattle.std.specs.Prelude.{int_div}
 use Rattle.gx_num.specs.Number.{common_divisor}
-use Rattle.gx_num.proofs.Greatest.{common_divisor-is}
-use Rattle.gx_fraction.specs.Fraction.{Fraction, IsEqual, IsKept, lowest}
+use Rattle.gx_num.proofs.Divisors.{common_divisor-same, IsDivisor-two}
+use Rattle.gx_fraction.specs.Fraction.{Fraction, IsEqual, IsNormal, lowest}
 use Rattle.gx_fraction.proofs.Gcd.{coprime, crossed, positive_gcd, positive_quotient}
 
 factor_le : (m g n : ℕ) → 0 < g → m * g ≡ n → m ≤ n
@@ -36,7 +36,7 @@ module _ (a den g : ℕ) (positive : 0 < den) (small : a < 2 ^ 126) (few : den <
   under : a / g * g ≡ a
   under = div-mul_cancel g is.0
 
-  pub kept : (z : ℤ) → unsigned_abs z ≡ a / g → IsKept (record { num = z; den = den / g })
+  pub kept : (z : ℤ) → unsigned_abs z ≡ a / g → IsNormal (record { num = z; den = den / g })
   kept z e =
       let divides = positive_gcd a den g positive is in
       let n = factor_le (a / g) g a divides under in
@@ -51,7 +51,7 @@ module _ (a den g : ℕ) (positive : 0 < den) (small : a < 2 ^ 126) (few : den <
       }
 
 pub record Reduces (num : ℤ) (den : ℕ) (f : Fraction) : Type 0 where
-  pub kept : IsKept f
+  pub kept : IsNormal f
   pub equal : IsEqual f (record { num = num; den = den })
   pub value : f ≡ lowest num den
 
@@ -59,7 +59,7 @@ pub record Reduces (num : ℤ) (den : ℕ) (f : Fraction) : Type 0 where
 signed_quotient : (m g : ℕ) → 0 < g → int_div (negsuc m) (pos g) ≡ neg_ℤ (pos (suc m / g))
 signed_quotient m g h = refl
 
-value_is : (num z : ℤ) (den g : ℕ) → common_divisor (unsigned_abs num) den ≡ g → z ≡ int_div num (pos g) → record { num = z; den = den / g } ≡ lowest num den
+value_is : (num z : ℤ) (den g : ℕ) → common_divisor (unsigned_abs num ∷ den ∷ []) ≡ g → z ≡ int_div num (pos g) → record { num = z; den = den / g } ≡ lowest num den
 value_is num z den g e h = rw (e, h) refl
 
 no_less : (n : ℕ) → nat_lt n 0 ≡ false
@@ -72,12 +72,12 @@ reduced (pos n) z den g p s f is e =
     record {
       kept = kept n den g p s f is z (ap unsigned_abs whole);
       equal = rw whole (ap pos (crossed n den g is));
-      value = value_is (pos n) z den g (common_divisor-is n den g p (positive_gcd n den g p is) is) whole;
+      value = value_is (pos n) z den g (common_divisor-same (n ∷ den ∷ []) g (IsDivisor-two n den g is)) whole;
     }
 reduced (negsuc n) z den g p s f is e = record {
   kept = kept (suc n) den g p s f is z (ap unsigned_abs e ∙ sign_abs (suc n / g));
   equal = rw e (same_negative (suc n / g) (suc n) (den / g) den (crossed (suc n) den g is));
-  value = value_is (negsuc n) z den g (common_divisor-is (suc n) den g p (positive_gcd (suc n) den g p is) is) (e ∙ sym (signed_quotient n g (positive_gcd (suc n) den g p is)));
+  value = value_is (negsuc n) z den g (common_divisor-same (suc n ∷ den ∷ []) g (IsDivisor-two (suc n) den g is)) (e ∙ sym (signed_quotient n g (positive_gcd (suc n) den g p is)));
 }
 
 -- the same, as the code's casts have it

@@ -1,7 +1,6 @@
 -- Fractions: equality, lowest terms and order, by products crosswise (any text on arithmetic).
-use Rattle.std.specs.Prelude.{◌≡◌, ℕ, ℤ, ◌<◌, ◌^◌, ◌*ℤ◌, ◌/◌, int_div, pos, neg_ℤ, unsigned_abs, if◌then◌else◌}
-use Rattle.std.specs.Int.{IsGcd}
-use Rattle.gx_num.specs.Number.{common_divisor}
+use Rattle.std.specs.Prelude.{◌≡◌, ℕ, ℤ, ◌<◌, ◌^◌, ◌*ℤ◌, ◌/◌, int_div, pos, neg_ℤ, unsigned_abs, if◌then◌else◌, [], ◌∷◌}
+use Rattle.gx_num.specs.Number.{common_divisor, IsLowest}
 use Rattle.std.specs.Ordering.{int_cmp, is_lt, is_gt}
 use Rattle.std.specs.declared.cmp.Ordering.{Ordering}
 
@@ -14,17 +13,10 @@ pub record Fraction : Type 0 where
 abbrev pub IsEqual : Fraction → Fraction → Type 0
 IsEqual a b = a.num *ℤ pos b.den ≡ b.num *ℤ pos a.den
 
--- the denominator is above 0, and no number above 1 divides both
-pub record IsLowest (f : Fraction) : Type 0 where
-  pub positive : 0 < f.den
-  pub coprime : IsGcd (unsigned_abs f.num) f.den 1
-
 -- num/den in lowest terms
 abbrev pub lowest : ℤ → ℕ → Fraction
-lowest num den = record {
-  num = int_div num (pos (common_divisor (unsigned_abs num) den));
-  den = den / common_divisor (unsigned_abs num) den;
-}
+lowest num den =
+    let divisor = common_divisor (unsigned_abs num ∷ den ∷ []) in record { num = int_div num (pos divisor); den = den / divisor }
 
 abbrev pub opposite : Fraction → Fraction
 opposite f = record { num = neg_ℤ f.num; den = f.den }
@@ -39,8 +31,8 @@ greater a b = if is_lt (compare a b) then b else a
 abbrev pub smaller : Fraction → Fraction → Fraction
 smaller a b = if is_gt (compare a b) then b else a
 
--- what every kept fraction is
-pub record IsKept (f : Fraction) : Type 0 where
-  pub lowest : IsLowest f
+-- what every fraction here is: in lowest terms, with numbers that fit
+pub record IsNormal (f : Fraction) : Type 0 where
+  pub lowest : IsLowest (unsigned_abs f.num) f.den
   pub num : unsigned_abs f.num < 2 ^ 126
   pub den : f.den < 2 ^ 126

@@ -1,5 +1,6 @@
 ghost use Rattle.std.specs.Prelude.{◌≡◌, ◌<◌, ◌^◌, ◌<ℤ◌, ◌*ℤ◌, pos, neg_ℤ, if◌then◌else◌, unsigned_abs};
-ghost use Rattle.gx_fraction.specs.Fraction.{IsLowest, IsEqual, lowest, opposite, compare, greater, smaller};
+ghost use Rattle.gx_num.specs.Number.{IsLowest};
+ghost use Rattle.gx_fraction.specs.Fraction.{IsEqual, lowest, opposite, compare, greater, smaller};
 
 use gx_num::{cmp_products, gcd};
 use std::cmp::Ordering;
@@ -14,13 +15,13 @@ pub struct Frac {
 
 impl Model for Frac {
     ghost use Rattle.std.specs.Prelude.{◌<◌, ◌^◌, unsigned_abs};
-    ghost use Rattle.gx_fraction.specs.Fraction.{Fraction, IsKept};
+    ghost use Rattle.gx_fraction.specs.Fraction.{Fraction, IsNormal};
 
     ghost Value = { Fraction };
 
     ghost view = { λ f. record { num = f.num; den = f.den } };
 
-    ghost invariant = { λ f. IsKept (record { num = f.num; den = f.den }) };
+    ghost invariant = { λ f. IsNormal (record { num = f.num; den = f.den }) };
 
     ghost inverse = { λ v. record { num = v.num; den = v.den } };
 }
@@ -32,7 +33,7 @@ impl Frac {
         requires num { unsigned_abs num < 2 ^ 126 }
         requires den { unsigned_abs den < 2 ^ 126 }
         ensures value { result ≡ lowest num (unsigned_abs den) }
-        ensures lowest { IsLowest result }
+        ensures lowest { IsLowest (unsigned_abs result.num) result.den }
         ensures equal { IsEqual result (record { num = num; den = unsigned_abs den }) }
     {
         let magnitude = num.unsigned_abs();

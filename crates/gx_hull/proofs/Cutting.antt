@@ -5,12 +5,13 @@ use Rattle.std.proofs.lemmas.List.Elements.{All-weaker}
 use Rattle.std.proofs.lemmas.Bool.Decides.{same_from_decides}
 use Rattle.gx_num.specs.declared.vector.V3.{V3}
 use Rattle.gx_num.specs.Vector.{dot_of}
-use Rattle.gx_num.specs.Space.{Vec4, HalfSpace, height, is_in, is_inside}
+use Rattle.gx_num.specs.Space.{HalfSpace, is_in, is_inside, normal_dot}
+use Rattle.gx_num.specs.Vector4.{Vec4}
 use Rattle.gx_algebra.proofs.Terms as term
 use Rattle.gx_algebra.proofs.Terms.{◌≣◌, ◌⊖◌, ◌⊗◌, none}
 use Rattle.gx_algebra.proofs.Identity.{identity, number, vector3, vector4}
-use Rattle.gx_plane.specs.Plane.{is_zero, side_of, turned, unit_along}
-use Rattle.gx_plane.proofs.PlaneFacts.{side_of-turned}
+use Rattle.gx_plane.specs.Plane.{is_zero, side_of, flipped, unit_along}
+use Rattle.gx_plane.proofs.PlaneFacts.{side_of-flipped}
 use Rattle.gx_shapes.specs.Hull.{IsAtMost, IsBound, IsHullOf}
 use Rattle.gx_hull.specs.Hull.{lower, upper, faces_of, extent_of}
 use Rattle.gx_hull.specs.Laws.{IsBetween, FacesAreTheSolid}
@@ -31,22 +32,22 @@ all_in solid other h p w e =
 
 all_inside : (solid other : List HalfSpace) → All (IsImplied solid) other → (p : Vec4) → pos 0 <ℤ p.w → is_inside solid p ≡ true → is_inside other p ≡ true
 all_inside solid other h p w e =
-    (Decides-is_inside other p).1 (All-weaker (IsImplied solid) (λ h. height h p <ℤ (h.e *ℤ p.w)) (λ h i. strict solid h i.plane i.everywhere p w e) other h)
+    (Decides-is_inside other p).1 (All-weaker (IsImplied solid) (λ h. normal_dot h p <ℤ (h.e *ℤ p.w)) (λ h i. strict solid h i.plane i.everywhere p w e) other h)
 
 -- A coordinate of vertices and points, as a direction gives it: at the points inside it is strictly within the extent.
-between : (solid : List HalfSpace) (vertices : List V3) → IsHullOf solid vertices → (u : V3) (of : V3 → ℤ) (at : Vec4 → ℤ) → is_zero u ≡ false → is_zero (turned (record { n = u; e = pos 0 })).n ≡ false → ((q : V3) → dot_of u q ≡ of q) → ((p : Vec4) → height (record { n = u; e = pos 0 }) p ≡ at p) → ((a b : V3) → of (lower a b) ≡ int_min (of a) (of b)) → ((a b : V3) → of (upper a b) ≡ int_max (of a) (of b)) → (p : Vec4) → pos 0 <ℤ p.w → is_inside solid p ≡ true → IsBetween (of (extent_of vertices).low) (of (extent_of vertices).high) (at p) p.w
+between : (solid : List HalfSpace) (vertices : List V3) → IsHullOf solid vertices → (u : V3) (of : V3 → ℤ) (at : Vec4 → ℤ) → is_zero u ≡ false → is_zero (flipped (record { n = u; e = pos 0 })).n ≡ false → ((q : V3) → dot_of u q ≡ of q) → ((p : Vec4) → normal_dot (record { n = u; e = pos 0 }) p ≡ at p) → ((a b : V3) → of (lower a b) ≡ int_min (of a) (of b)) → ((a b : V3) → of (upper a b) ≡ int_max (of a) (of b)) → (p : Vec4) → pos 0 <ℤ p.w → is_inside solid p ≡ true → IsBetween (of (extent_of vertices).low) (of (extent_of vertices).high) (at p) p.w
 between solid vertices hull u of at plane other same same_at min max p w inside =
     let low = of (extent_of vertices).low in
     let high = of (extent_of vertices).high in
     let up : HalfSpace = record { n = u; e = high } in
     let down : HalfSpace = record { n = u; e = low } in
     record {
-      above = omega (arith, ints, same_at p, turned_height u low p, strict solid (turned down) other (hull.bounded (turned down) (All-weaker (λ q. low ≤ℤ of q) (λ q. side_of (turned down) q ≤ℤ pos 0) (λ q k. omega (arith, ints, k, same q, side_of-turned down q)) vertices (low_below of min vertices))) p w inside);
+      above = omega (arith, ints, same_at p, flipped_height u low p, strict solid (flipped down) other (hull.bounded (flipped down) (All-weaker (λ q. low ≤ℤ of q) (λ q. side_of (flipped down) q ≤ℤ pos 0) (λ q k. omega (arith, ints, k, same q, side_of-flipped down q)) vertices (low_below of min vertices))) p w inside);
       below = omega (arith, ints, same_at p, strict solid up plane (hull.bounded up (All-weaker (λ q. of q ≤ℤ high) (λ q. side_of up q ≤ℤ pos 0) (λ q k. omega (arith, ints, k, same q)) vertices (high_above of max vertices))) p w inside);
     }
   where
-    turned_height : (u : V3) (low : ℤ) (p : Vec4) → height (turned (record { n = u; e = low })) p -ℤ (pos 0 -ℤ low) *ℤ p.w ≡ low *ℤ p.w -ℤ height (record { n = u; e = low }) p
-    turned_height = identity (vector3 ∷ number ∷ vector4 ∷ []) (λ u low p. term.height (record { n = record { x = none ⊖ u.x; y = none ⊖ u.y; z = none ⊖ u.z }; e = none ⊖ low }) p ⊖ (none ⊖ low) ⊗ p.w ≣ low ⊗ p.w ⊖ term.height (record { n = u; e = low }) p) tt
+    flipped_height : (u : V3) (low : ℤ) (p : Vec4) → normal_dot (flipped (record { n = u; e = low })) p -ℤ (pos 0 -ℤ low) *ℤ p.w ≡ low *ℤ p.w -ℤ normal_dot (record { n = u; e = low }) p
+    flipped_height = identity (vector3 ∷ number ∷ vector4 ∷ []) (λ u low p. term.normal_dot (record { n = record { x = none ⊖ u.x; y = none ⊖ u.y; z = none ⊖ u.z }; e = none ⊖ low }) p ⊖ (none ⊖ low) ⊗ p.w ≣ low ⊗ p.w ⊖ term.normal_dot (record { n = u; e = low }) p) tt
 
 pub faces_are_the_solid : FacesAreTheSolid
 faces_are_the_solid solid vertices apart hull = record {

@@ -8,14 +8,14 @@ use Rattle.std.proofs.lemmas.Int.{by_lt_z}
 use Rattle.std.proofs.lemmas.List.Elements.{All-nil, All-cons, All-head, All-tail}
 use Rattle.std.proofs.lemmas.List.Sums.{AllPass-from_list_all}
 use Rattle.gx_num.specs.declared.vector.V3.{V3}
-use Rattle.gx_num.specs.Space.{Vec4, HalfSpace, height, is_in}
-use Rattle.gx_plane.proofs.Candidates.{turned-turned}
-use Rattle.gx_plane.specs.Plane.{divisor_of, is_zero, side_of, Supports, turned, normal_of, plane_through}
+use Rattle.gx_num.specs.Space.{HalfSpace, is_in, normal_dot}
+use Rattle.gx_num.specs.Vector4.{Vec4}
+use Rattle.gx_plane.proofs.Candidates.{flipped-flipped, none_passes}
+use Rattle.gx_plane.specs.Plane.{divisor_of, is_zero, side_of, Supports, flipped, normal_of, plane_through}
 use Rattle.gx_plane.specs.Between.{triples_of, both_ways, candidates}
 use Rattle.gx_plane.proofs.Divisors.{divisor_of-same, not_zero-divisor_of, IsPrimitive-primitive}
-use Rattle.gx_plane.proofs.PlaneFacts.{side_of-turned, plane_through_some}
-use Rattle.gx_plane.proofs.Candidates.{none_passes}
-use Rattle.gx_shapes.specs.Points.{is_same, is_flat}
+use Rattle.gx_plane.proofs.PlaneFacts.{side_of-flipped, plane_through_some}
+use Rattle.gx_shapes.specs.Points.{is_same, are_coplanar}
 use Rattle.gx_shapes.proofs.Distinct.{Decides-is_same, All-distinct_by, All-from_distinct_by}
 use Rattle.gx_shapes.specs.Hull.{IsAtMost, IsBound}
 use Rattle.gx_hull.specs.Hull.{supports, outward, is_same_plane, faces_of}
@@ -54,9 +54,9 @@ All-filter_map P f (x ∷ xs) each = add (f x) (each x) (All-filter_map P f xs e
 not_zero : (h : HalfSpace) → divisor_of h.n ≡ 1 → is_zero h.n ≡ false
 not_zero h e = not_zero-divisor_of h.n (omega arith)
 
--- the same plane turned has the same divisor
-not_zero-turned : (h : HalfSpace) → divisor_of h.n ≡ 1 → is_zero (turned h).n ≡ false
-not_zero-turned h e = not_zero (turned h) (divisor_of-same (turned h).n h.n (opposite h.n.x) (opposite h.n.y) (opposite h.n.z) ∙ e)
+-- the same plane flipped has the same divisor
+not_zero-flipped : (h : HalfSpace) → divisor_of h.n ≡ 1 → is_zero (flipped h).n ≡ false
+not_zero-flipped h e = not_zero (flipped h) (divisor_of-same (flipped h).n h.n (opposite h.n.x) (opposite h.n.y) (opposite h.n.z) ∙ e)
   where
     opposite : (a : ℤ) → unsigned_abs (pos 0 -ℤ a) ≡ unsigned_abs a
     opposite a = omega (arith, ints)
@@ -64,13 +64,13 @@ not_zero-turned h e = not_zero (turned h) (divisor_of-same (turned h).n h.n (opp
 some_same : {a b : HalfSpace} → Some a ≡ Some b → a ≡ b
 some_same e = cc
 
--- the plane kept is the one given or the same turned, and bounds the points
+-- the plane kept is the one given or the same flipped, and bounds the points
 IsBound-outward : (points : List V3) (k h : HalfSpace) → divisor_of k.n ≡ 1 → outward points (Some k) ≡ Some h → IsBound points h
-IsBound-outward points k h one e = go (supports points k) (supports points (turned k)) refl refl e
+IsBound-outward points k h one e = go (supports points k) (supports points (flipped k)) refl refl e
   where
-    go : (s t : Bool) → supports points k ≡ s → supports points (turned k) ≡ t → cond s (Some k) (cond t (Some (turned k)) None) ≡ Some h → IsBound points h
+    go : (s t : Bool) → supports points k ≡ s → supports points (flipped k) ≡ t → cond s (Some k) (cond t (Some (flipped k)) None) ≡ Some h → IsBound points h
     go true t es et f = subst (IsBound points) (some_same f) (record { plane = not_zero k one; supports = (Decides-supports k points).0 es })
-    go false true es et f = subst (IsBound points) (some_same f) (record { plane = not_zero-turned k one; supports = (Decides-supports (turned k) points).0 et })
+    go false true es et f = subst (IsBound points) (some_same f) (record { plane = not_zero-flipped k one; supports = (Decides-supports (flipped k) points).0 et })
     go false false es et f = cc
 
 pub faces_bound : (points : List V3) → All (IsBound points) (faces_of points)
@@ -86,17 +86,17 @@ faces_bound points =
 
 -- ---- a point that the faces hold at breaks no plane that bounds the points
 abbrev holds_at : Vec4 → HalfSpace → Bool
-holds_at p h = int_le (height h p) (h.e *ℤ p.w)
+holds_at p h = int_le (normal_dot h p) (h.e *ℤ p.w)
 
 abbrev Hold : Vec4 → List HalfSpace → Type 0
 Hold p hs = All (λ h. holds_at p h ≡ true) hs
 
 -- a plane that bounds the points only one way, and that the point breaks
 abbrev breaks : List V3 → Vec4 → HalfSpace → Bool
-breaks points p h = supports points h && (not (holds_at p h) && not (supports points (turned h)))
+breaks points p h = supports points h && (not (holds_at p h) && not (supports points (flipped h)))
 
-passes : (points : List V3) (p : Vec4) (h : HalfSpace) → (supports points h ≡ false) ⊎ (holds_at p h ≡ true) ⊎ (supports points (turned h) ≡ true) → breaks points p h ≡ false
-passes points p h = go (supports points h) (holds_at p h) (supports points (turned h))
+passes : (points : List V3) (p : Vec4) (h : HalfSpace) → (supports points h ≡ false) ⊎ (holds_at p h ≡ true) ⊎ (supports points (flipped h) ≡ true) → breaks points p h ≡ false
+passes points p h = go (supports points h) (holds_at p h) (supports points (flipped h))
   where
     go : (s k t : Bool) → (s ≡ false) ⊎ (k ≡ true) ⊎ (t ≡ true) → (s && (not k && not t)) ≡ false
     go false k t why = refl
@@ -119,25 +119,25 @@ none_breaks points p (t ∷ ts) k =
 
     go : (o : Option HalfSpace) → (Hold p faces → find (breaks points p) rest ≡ None) → Hold p (cons_option (outward points o) faces) → find (breaks points p) (both_ways o ++ rest) ≡ None
     go None later k = later k
-    go (Some h) later k = ways (supports points h) (supports points (turned h)) refl refl k
+    go (Some h) later k = ways (supports points h) (supports points (flipped h)) refl refl k
       where
-        neither : breaks points p h ≡ false → breaks points p (turned h) ≡ false → Hold p faces → find (breaks points p) (h ∷ turned h ∷ rest) ≡ None
+        neither : breaks points p h ≡ false → breaks points p (flipped h) ≡ false → Hold p faces → find (breaks points p) (h ∷ flipped h ∷ rest) ≡ None
         neither e f k = rw (e, f) (later k)
 
-        ways : (s u : Bool) → supports points h ≡ s → supports points (turned h) ≡ u → Hold p (cons_option (cond s (Some h) (cond u (Some (turned h)) None)) faces) → find (breaks points p) (h ∷ turned h ∷ rest) ≡ None
+        ways : (s u : Bool) → supports points h ≡ s → supports points (flipped h) ≡ u → Hold p (cons_option (cond s (Some h) (cond u (Some (flipped h)) None)) faces) → find (breaks points p) (h ∷ flipped h ∷ rest) ≡ None
         ways true u es eu k =
             neither (passes points p h (inr (inl (All-head (λ h. holds_at p h ≡ true) h faces k))))
-            (passes points p (turned h) (inr (inr (ap (supports points) (turned-turned h) ∙ es))))
+            (passes points p (flipped h) (inr (inr (ap (supports points) (flipped-flipped h) ∙ es))))
             (All-tail (λ h. holds_at p h ≡ true) h faces k)
         ways false true es eu k =
             neither (passes points p h (inl es))
-            (passes points p (turned h) (inr (inl (All-head (λ h. holds_at p h ≡ true) (turned h) faces k))))
-            (All-tail (λ h. holds_at p h ≡ true) (turned h) faces k)
-        ways false false es eu k = neither (passes points p h (inl es)) (passes points p (turned h) (inl eu)) k
+            (passes points p (flipped h) (inr (inl (All-head (λ h. holds_at p h ≡ true) (flipped h) faces k))))
+            (All-tail (λ h. holds_at p h ≡ true) (flipped h) faces k)
+        ways false false es eu k = neither (passes points p h (inl es)) (passes points p (flipped h) (inl eu)) k
 
-pub implied : (vertices : List V3) → is_flat vertices ≡ false → (h : HalfSpace) → Supports h vertices → (p : Vec4) → is_in (faces_of vertices) p ≡ true → IsAtMost h p
+pub implied : (vertices : List V3) → are_coplanar vertices ≡ false → (h : HalfSpace) → Supports h vertices → (p : Vec4) → is_in (faces_of vertices) p ≡ true → IsAtMost h p
 implied vertices solid h s p inside =
-    by_lt_z (h.e *ℤ p.w) (height h p) (λ lt. absurd (no (broken vertices h p solid s lt))) (λ le. le)
+    by_lt_z (h.e *ℤ p.w) (normal_dot h p) (λ lt. absurd (no (broken vertices h p solid s lt))) (λ le. le)
   where
     none : find (breaks vertices p) (candidates vertices) ≡ None
     none = none_breaks vertices p (triples_of vertices)
@@ -151,10 +151,10 @@ implied vertices solid h s p inside =
 
     no : IsBroken vertices p → ⊥
     no b =
-        always (supports vertices b.plane) (holds_at p b.plane) (supports vertices (turned b.plane))
+        always (supports vertices b.plane) (holds_at p b.plane) (supports vertices (flipped b.plane))
         ((Decides-supports b.plane vertices).1 b.supports)
-        (λ e. omega (arith, ints, b.beyond, (Decides-int_le (height b.plane p) (b.plane.e *ℤ p.w)).0 e))
+        (λ e. omega (arith, ints, b.beyond, (Decides-int_le (normal_dot b.plane p) (b.plane.e *ℤ p.w)).0 e))
         (λ e.
-        let turned_too = (Decides-supports (turned b.plane) vertices).0 e in
-        not_all_on vertices b.plane p solid (λ k d lt. omega (arith, ints, b.supports k d lt, turned_too k d lt, side_of-turned b.plane (get_or vertices k d))) b.beyond)
+        let flipped_too = (Decides-supports (flipped b.plane) vertices).0 e in
+        not_all_on vertices b.plane p solid (λ k d lt. omega (arith, ints, b.supports k d lt, flipped_too k d lt, side_of-flipped b.plane (get_or vertices k d))) b.beyond)
         (none_passes (breaks vertices p) vertices b.first b.second b.third b.plane none b.first_in b.second_in b.third_in b.same).0

@@ -4,7 +4,8 @@ use Rattle.std.proofs.lemmas.Int.{by_lt_z}
 use Rattle.std.proofs.lemmas.List.Elements.{All-nil, All-cons, All-head, All-tail}
 use Rattle.gx_num.specs.declared.vector.V3.{V3}
 use Rattle.gx_num.specs.Vector.{dot_of}
-use Rattle.gx_num.specs.Space.{Vec4, HalfSpace, height, is_in, is_inside}
+use Rattle.gx_num.specs.Space.{HalfSpace, is_in, is_inside, normal_dot}
+use Rattle.gx_num.specs.Vector4.{Vec4}
 use Rattle.gx_algebra.proofs.Terms as term
 use Rattle.gx_algebra.proofs.Ring.{num}
 use Rattle.gx_algebra.proofs.Terms.{◌≣◌, ◌⊕◌, ◌⊖◌, ◌⊗◌}
@@ -25,8 +26,8 @@ moved m p n = record {
   w = pos m *ℤ p.w;
 }
 
-height-moved : (h : HalfSpace) (m : ℕ) (p : Vec4) (n : V3) → height h (moved m p n) ≡ pos m *ℤ height h p +ℤ dot_of h.n n
-height-moved = identity (half_space ∷ natural ∷ vector4 ∷ vector3 ∷ []) (λ h m p n. term.height h (record { x = m ⊗ p.x ⊕ n.x; y = m ⊗ p.y ⊕ n.y; z = m ⊗ p.z ⊕ n.z; w = m ⊗ p.w }) ≣ m ⊗ term.height h p ⊕ term.dot_of h.n n) tt
+height-moved : (h : HalfSpace) (m : ℕ) (p : Vec4) (n : V3) → normal_dot h (moved m p n) ≡ pos m *ℤ normal_dot h p +ℤ dot_of h.n n
+height-moved = identity (half_space ∷ natural ∷ vector4 ∷ vector3 ∷ []) (λ h m p n. term.normal_dot h (record { x = m ⊗ p.x ⊕ n.x; y = m ⊗ p.y ⊕ n.y; z = m ⊗ p.z ⊕ n.z; w = m ⊗ p.w }) ≣ m ⊗ term.normal_dot h p ⊕ term.dot_of h.n n) tt
 
 mul_turn : (m : ℕ) (e w : ℤ) → e *ℤ (pos m *ℤ w) ≡ pos m *ℤ (e *ℤ w)
 mul_turn = identity (natural ∷ number ∷ number ∷ []) (λ m e w. e ⊗ (m ⊗ w) ≣ m ⊗ (e ⊗ w)) tt
@@ -40,12 +41,12 @@ short_step m a b d lt le =
     gap = identity (natural ∷ number ∷ number ∷ []) (λ m a b. m ⊗ (b ⊖ (a ⊕ num (pos 1))) ≣ (m ⊗ b ⊖ m ⊗ a) ⊖ m) tt
 
 -- a point inside stays in the solid over every step that is short enough
-stays : (solid : List HalfSpace) (p : Vec4) (n : V3) → All (λ g. height g p <ℤ (g.e *ℤ p.w)) solid → (k : ℕ) × ((m : ℕ) → k ≤ m → All (λ g. IsAtMost g (moved m p n)) solid)
+stays : (solid : List HalfSpace) (p : Vec4) (n : V3) → All (λ g. normal_dot g p <ℤ (g.e *ℤ p.w)) solid → (k : ℕ) × ((m : ℕ) → k ≤ m → All (λ g. IsAtMost g (moved m p n)) solid)
 stays [] p n h = (0, λ m le. All-nil (λ g. IsAtMost g (moved m p n)))
 stays (g ∷ gs) p n h =
-    let lt = All-head (λ g. height g p <ℤ (g.e *ℤ p.w)) g gs h in
-    let rest = stays gs p n (All-tail (λ g. height g p <ℤ (g.e *ℤ p.w)) g gs h) in
-    (unsigned_abs (dot_of g.n n) + rest.0, λ m le. All-cons (λ g. IsAtMost g (moved m p n)) g gs (omega (arith, ints, height-moved g m p n, mul_turn m g.e p.w, short_step m (height g p) (g.e *ℤ p.w) (dot_of g.n n) lt (omega arith))) (rest.1 m (omega arith)))
+    let lt = All-head (λ g. normal_dot g p <ℤ (g.e *ℤ p.w)) g gs h in
+    let rest = stays gs p n (All-tail (λ g. normal_dot g p <ℤ (g.e *ℤ p.w)) g gs h) in
+    (unsigned_abs (dot_of g.n n) + rest.0, λ m le. All-cons (λ g. IsAtMost g (moved m p n)) g gs (omega (arith, ints, height-moved g m p n, mul_turn m g.e p.w, short_step m (normal_dot g p) (g.e *ℤ p.w) (dot_of g.n n) lt (omega arith))) (rest.1 m (omega arith)))
 
 dot_of-self : (n : V3) → is_zero n ≡ false → pos 0 <ℤ dot_of n n
 dot_of-self n e =
@@ -60,22 +61,22 @@ dot_of-self n e =
     root : (a : ℤ) → a *ℤ a ≡ pos 0 → a ≡ pos 0
     root a e = ⊎_elim (λ z. z) (λ z. z) (mul-eq-zero a a e)
 
-pub strict : (solid : List HalfSpace) (h : HalfSpace) → is_zero h.n ≡ false → ((q : Vec4) → pos 0 <ℤ q.w → is_in solid q ≡ true → IsAtMost h q) → (p : Vec4) → pos 0 <ℤ p.w → is_inside solid p ≡ true → height h p <ℤ (h.e *ℤ p.w)
-strict solid h plane holds p w inside = by_lt_z (height h p) (h.e *ℤ p.w) (λ lt. lt) (λ le. absurd (beyond le))
+pub strict : (solid : List HalfSpace) (h : HalfSpace) → is_zero h.n ≡ false → ((q : Vec4) → pos 0 <ℤ q.w → is_in solid q ≡ true → IsAtMost h q) → (p : Vec4) → pos 0 <ℤ p.w → is_inside solid p ≡ true → normal_dot h p <ℤ (h.e *ℤ p.w)
+strict solid h plane holds p w inside = by_lt_z (normal_dot h p) (h.e *ℤ p.w) (λ lt. lt) (λ le. absurd (beyond le))
   where
     step : (k : ℕ) × ((m : ℕ) → k ≤ m → All (λ g. IsAtMost g (moved m p h.n)) solid)
     step = stays solid p h.n ((Decides-is_inside solid p).0 inside)
 
-    beyond : (h.e *ℤ p.w) ≤ℤ height h p → ⊥
+    beyond : (h.e *ℤ p.w) ≤ℤ normal_dot h p → ⊥
     beyond le =
         let m = suc step.0 in
-        let at_most : height h (moved m p h.n) ≤ℤ (h.e *ℤ (pos m *ℤ p.w)) = holds (moved m p h.n) (mul_pos (pos m) p.w (omega (arith, ints)) w) ((Decides-is_in solid (moved m p h.n)).1 (step.1 m (omega arith))) in
+        let at_most : normal_dot h (moved m p h.n) ≤ℤ (h.e *ℤ (pos m *ℤ p.w)) = holds (moved m p h.n) (mul_pos (pos m) p.w (omega (arith, ints)) w) ((Decides-is_in solid (moved m p h.n)).1 (step.1 m (omega arith))) in
         omega (
           arith,
           ints,
           at_most,
           height-moved h m p h.n,
           mul_turn m h.e p.w,
-          mul-le-left (pos m) (h.e *ℤ p.w) (height h p) (omega (arith, ints)) le,
+          mul-le-left (pos m) (h.e *ℤ p.w) (normal_dot h p) (omega (arith, ints)) le,
           dot_of-self h.n plane,
         )

@@ -5,9 +5,9 @@ use Rattle.std.proofs.lemmas.Bool.Decides.{not_from_Decides}
 use Rattle.std.proofs.lemmas.Int.{by_lt_z}
 use Rattle.std.proofs.lemmas.List.Elements.{All-weaker, All-map}
 use Rattle.gx_num.specs.declared.vector.V3.{V3}
-use Rattle.gx_num.specs.Vector.{dot_of}
-use Rattle.gx_num.specs.Space.{Vec4, HalfSpace, height}
-use Rattle.gx_algebra.specs.Vectors.{origin, times3, dot4, times4, opposite4, det4, minors}
+use Rattle.gx_num.specs.Vector.{dot_of, times3}
+use Rattle.gx_num.specs.Space.{HalfSpace, normal_dot}
+use Rattle.gx_num.specs.Vector4.{Vec4, origin, dot4, times4, opposite4, det4, minors}
 use Rattle.gx_algebra.proofs.Terms as term
 use Rattle.gx_algebra.proofs.Terms.{Term3, Term4, ◌≣◌, ◌≣⁴◌, ◌⊕◌, ◌⊖◌, ◌⊗◌, none}
 use Rattle.gx_algebra.proofs.Identity.{identity, identity4, number, vector3, vector4, half_space}
@@ -16,16 +16,14 @@ use Rattle.gx_algebra.proofs.Laws.{mul_comm, mul-zero}
 use Rattle.gx_algebra.proofs.Order.{nonneg_of_mul, pos_of_mul, zero_of_mul}
 use Rattle.gx_plane.specs.Laws.{Spans, IsBeyond, IsFromThree}
 use Rattle.gx_plane.specs.Plane.{divisor_of, primitive, side_of, Supports, normal_of, plane_through}
-use Rattle.gx_algebra.proofs.Lists.{Contains-unmap}
-use Rattle.gx_plane.proofs.Complete.{within_term}
+use Rattle.gx_algebra.proofs.Lists.{Contains-unmap, All-from_map}
+use Rattle.gx_plane.proofs.Complete.{within_term, lifted, within}
 use Rattle.gx_plane.proofs.Cones.{dot4-self_zero}
 use Rattle.gx_plane.proofs.Tilts.{tilted}
 use Rattle.gx_plane.proofs.PlaneFacts.{times3-primitive, plane_through_some, plane_through_none}
-use Rattle.gx_plane.proofs.Complete.{lifted, within}
-use Rattle.gx_shapes.specs.Points.{is_flat}
-use Rattle.gx_algebra.proofs.Lists.{All-from_map}
+use Rattle.gx_shapes.specs.Points.{are_coplanar}
 use Rattle.gx_plane.proofs.Candidates.{normal_term}
-use Rattle.gx_shapes.proofs.Flatness.{IsCoplanar, Decides-is_flat, volume, volume_term}
+use Rattle.gx_shapes.proofs.Flatness.{IsCoplanar, Decides-are_coplanar, volume, volume_term}
 use borrow.Author.Differences.{ints}
 
 -- ---- half-spaces and points as vectors of four numbers
@@ -39,8 +37,8 @@ lifted_term n a = record { x = n.x; y = n.y; z = n.z; w = term.dot_of n a }
 dot4-within : (h : HalfSpace) (x : V3) → dot4 (within x) (lifted h) ≡ pos 0 -ℤ side_of h x
 dot4-within = identity (half_space ∷ vector3 ∷ []) (λ h x. term.dot4 (within_term x) (record { x = h.n.x; y = h.n.y; z = h.n.z; w = h.e }) ≣ none ⊖ (term.dot_of h.n x ⊖ h.e)) tt
 
-dot4-broken_by : (h : HalfSpace) (p : Vec4) → dot4 (broken_by p) (lifted h) ≡ height h p -ℤ h.e *ℤ p.w
-dot4-broken_by = identity (half_space ∷ vector4 ∷ []) (λ h p. term.dot4 (record { x = p.x; y = p.y; z = p.z; w = none ⊖ p.w }) (record { x = h.n.x; y = h.n.y; z = h.n.z; w = h.e }) ≣ term.height h p ⊖ h.e ⊗ p.w) tt
+dot4-broken_by : (h : HalfSpace) (p : Vec4) → dot4 (broken_by p) (lifted h) ≡ normal_dot h p -ℤ h.e *ℤ p.w
+dot4-broken_by = identity (half_space ∷ vector4 ∷ []) (λ h p. term.dot4 (record { x = p.x; y = p.y; z = p.z; w = none ⊖ p.w }) (record { x = h.n.x; y = h.n.y; z = h.n.z; w = h.e }) ≣ term.normal_dot h p ⊖ h.e ⊗ p.w) tt
 
 -- the plane through a with this normal
 abbrev plane_from : V3 → V3 → HalfSpace
@@ -65,9 +63,9 @@ volume_zero a b c p v lt av bv cv pv =
     times : (k : ℤ) {z : ℤ} → z ≡ pos 0 → k *ℤ z ≡ pos 0
     times k e = ap (λ (t : ℤ). k *ℤ t) e ∙ mul-zero k
 
-Spans-within : (vertices : List V3) → is_flat vertices ≡ false → Spans (map within vertices)
+Spans-within : (vertices : List V3) → are_coplanar vertices ≡ false → Spans (map within vertices)
 Spans-within vertices e v h =
-    by_lt_z (pos 0) (dot4 v v) (λ lt. absurd (not_from_Decides (is_flat vertices) (Decides-is_flat vertices) e (coplanar lt))) (dot4-self_zero v)
+    by_lt_z (pos 0) (dot4 v v) (λ lt. absurd (not_from_Decides (are_coplanar vertices) (Decides-are_coplanar vertices) e (coplanar lt))) (dot4-self_zero v)
   where
     each : All (λ p. dot4 (within p) v ≡ pos 0) vertices
     each = All-from_map (λ m. dot4 m v ≡ pos 0) within vertices h
@@ -88,7 +86,7 @@ pub record IsBroken (vertices : List V3) (p : Vec4) : Type 0 where
   pub plane : HalfSpace
   pub same : plane_through first second third ≡ Some plane
   pub supports : Supports plane vertices
-  pub beyond : (plane.e *ℤ p.w) <ℤ height plane p
+  pub beyond : (plane.e *ℤ p.w) <ℤ normal_dot plane p
 
 from_points : (vertices : List V3) (w : Vec4) → IsFromThree (map within vertices) w → (a b c : V3) × Contains vertices a × Contains vertices b × Contains vertices c × (w ≡ lifted (plane_from (normal_of a b c) a))
 from_points vertices w three =
@@ -107,7 +105,7 @@ product_nothing g n a e = ap (λ (m : V3). dot4 g (lifted (plane_from m a))) e �
     out : (g : Vec4) (a : V3) → dot4 g (lifted (plane_from (record { x = pos 0; y = pos 0; z = pos 0 }) a)) ≡ pos 0
     out = identity (vector4 ∷ vector3 ∷ []) (λ g a. term.dot4 g (lifted_term (record { x = none; y = none; z = none }) a) ≣ none) tt
 
-pub broken : (vertices : List V3) (h : HalfSpace) (p : Vec4) → is_flat vertices ≡ false → Supports h vertices → (h.e *ℤ p.w) <ℤ height h p → IsBroken vertices p
+pub broken : (vertices : List V3) (h : HalfSpace) (p : Vec4) → are_coplanar vertices ≡ false → Supports h vertices → (h.e *ℤ p.w) <ℤ normal_dot h p → IsBroken vertices p
 broken vertices h p solid supports beyond = from (tilted (map within vertices) (broken_by p) (Spans-within vertices solid) (lifted h) is)
   where
     is : IsBeyond (map within vertices) (broken_by p) (lifted h)
@@ -145,7 +143,7 @@ broken vertices h p solid supports beyond = from (tilted (map within vertices) (
         go (a, b, c, in_a, in_b, in_c, e) = plane_of a b c in_a in_b in_c (subst (IsBeyond (map within vertices) (broken_by p)) e beyond) (plane_through a b c) refl
 
 -- a plane on which all points are is no plane that a point breaks
-pub not_all_on : (vertices : List V3) (h : HalfSpace) (p : Vec4) → is_flat vertices ≡ false → All (λ x. side_of h x ≡ pos 0) vertices → (h.e *ℤ p.w) <ℤ height h p → ⊥
+pub not_all_on : (vertices : List V3) (h : HalfSpace) (p : Vec4) → are_coplanar vertices ≡ false → All (λ x. side_of h x ≡ pos 0) vertices → (h.e *ℤ p.w) <ℤ normal_dot h p → ⊥
 not_all_on vertices h p solid on beyond =
     let zero : lifted h ≡ origin = Spans-within vertices solid (lifted h) (All-map (λ m. dot4 m (lifted h) ≡ pos 0) within vertices (All-weaker (λ x. side_of h x ≡ pos 0) (λ x. dot4 (within x) (lifted h) ≡ pos 0) (λ x k. omega (arith, ints, k, dot4-within h x)) vertices on)) in
     omega (arith, ints, beyond, dot4-broken_by h p, ap (dot4 (broken_by p)) zero, dot4-origin (broken_by p))

@@ -2,7 +2,8 @@
 use Rattle.std.proofs.Common.{◌≡◌, Bool, true, ℤ, ◌*ℤ◌, ◌≤ℤ◌, ◌<ℤ◌, int_le, int_lt, List, All, refl, arith}
 use Rattle.std.specs.Bool.{Decides}
 use Rattle.std.proofs.lemmas.Bool.Decides.{Decides-by_and}
-use Rattle.gx_num.specs.Space.{Vec4, HalfSpace, height, is_in, is_inside}
+use Rattle.gx_num.specs.Space.{HalfSpace, is_in, is_inside, normal_dot}
+use Rattle.gx_num.specs.Vector4.{Vec4}
 use Rattle.gx_shapes.specs.Hull.{IsAtMost}
 use borrow.Author.Differences.{ints}
 
@@ -14,8 +15,8 @@ Decides-int_le a b = (λ e. omega (arith, ints, e), λ h. grind (arith, ints))
 
 pub Decides-is_in : (solid : List HalfSpace) (p : Vec4) → Decides (is_in solid p) (All (λ h. IsAtMost h p) solid)
 Decides-is_in solid p =
-    Decides-by_and (λ h. int_le (height h p) (h.e *ℤ p.w)) (λ h. IsAtMost h p) (λ hs. is_in hs p) (λ h. Decides-int_le (height h p) (h.e *ℤ p.w)) refl (λ _ _. refl) solid
+    Decides-by_and (λ h. int_le (normal_dot h p) (h.e *ℤ p.w)) (λ h. IsAtMost h p) (λ hs. is_in hs p) (λ h. Decides-int_le (normal_dot h p) (h.e *ℤ p.w)) refl (λ _ _. refl) solid
 
-pub Decides-is_inside : (solid : List HalfSpace) (p : Vec4) → Decides (is_inside solid p) (All (λ h. height h p <ℤ (h.e *ℤ p.w)) solid)
+pub Decides-is_inside : (solid : List HalfSpace) (p : Vec4) → Decides (is_inside solid p) (All (λ h. normal_dot h p <ℤ (h.e *ℤ p.w)) solid)
 Decides-is_inside solid p =
-    Decides-by_and (λ h. int_lt (height h p) (h.e *ℤ p.w)) (λ h. height h p <ℤ (h.e *ℤ p.w)) (λ hs. is_inside hs p) (λ h. (λ e. omega (arith, ints, e), λ lt. grind (arith, ints))) refl (λ _ _. refl) solid
+    Decides-by_and (λ h. int_lt (normal_dot h p) (h.e *ℤ p.w)) (λ h. normal_dot h p <ℤ (h.e *ℤ p.w)) (λ hs. is_inside hs p) (λ h. (λ e. omega (arith, ints, e), λ lt. grind (arith, ints))) refl (λ _ _. refl) solid

@@ -6,9 +6,9 @@ use Rattle.std.specs.Ordering.{int_eq}
 use Rattle.gx_num.specs.declared.vector.V3.{V3}
 use Rattle.gx_num.specs.Vector.{IsWithin}
 use Rattle.gx_num.specs.Space.{HalfSpace}
-use Rattle.gx_plane.specs.Plane.{reach, side_of, turned, plane_through}
+use Rattle.gx_plane.specs.Plane.{reach, side_of, flipped, plane_through}
 use Rattle.gx_plane.specs.Between.{triples_of}
-use Rattle.gx_shapes.specs.Points.{is_same, distinct_by, distinct, is_flat}
+use Rattle.gx_shapes.specs.Points.{is_same, distinct_by, distinct, are_coplanar}
 use Rattle.gx_hull.specs.declared.fault.HullFault.{HullFault}
 use Rattle.gx_hull.specs.declared.fault.HullFault.TheVariants.{Vertices, Flat, NoMemory}
 use Rattle.gx_num.specs.declared.extent.Extent.{Extent}
@@ -19,11 +19,11 @@ use Rattle.gx_num.specs.declared.extent.Extent.{Extent}
 abbrev pub supports : List V3 → HalfSpace → Bool
 supports points h = list_all (λ p. int_le (side_of h p) (pos 0)) points
 
--- a plane, turned so that no point is beyond it, where it has all points on one side of it or on it
+-- a plane, flipped so that no point is beyond it, where it has all points on one side of it or on it
 abbrev pub outward : List V3 → Option HalfSpace → Option HalfSpace
 outward points None = None
 outward points (Some h) =
-    if supports points h then Some h else if supports points (turned h) then Some (turned h) else None
+    if supports points h then Some h else if supports points (flipped h) then Some (flipped h) else None
 
 abbrev pub is_same_plane : HalfSpace → HalfSpace → Bool
 is_same_plane a b = is_same a.n b.n && int_eq a.e b.e
@@ -52,10 +52,10 @@ pub record IsVertices (vertices : List V3) : Type 0 where
   pub most : length vertices ≤ 32
   pub within : All (IsWithin reach) vertices
   pub once : distinct vertices ≡ vertices
-  pub solid : is_flat vertices ≡ false
+  pub solid : are_coplanar vertices ≡ false
 
 abbrev pub unless_flat : List V3 → Result (List V3) HullFault
-unless_flat vertices = if is_flat vertices then Err Flat else Ok vertices
+unless_flat vertices = if are_coplanar vertices then Err Flat else Ok vertices
 
 -- the vertices of the hull of points, or why there is none
 abbrev pub hull_of : List V3 → Result (List V3) HullFault

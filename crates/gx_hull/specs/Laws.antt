@@ -1,9 +1,10 @@
 -- The faces of a solid's vertices are the solid.
 use Rattle.std.specs.Prelude.{◌≡◌, ℤ, pos, ◌<ℤ◌, ◌*ℤ◌, false, IsTrue, List}
 use Rattle.gx_num.specs.declared.vector.V3.{V3}
-use Rattle.gx_num.specs.Space.{Vec4, HalfSpace, is_in, is_inside}
+use Rattle.gx_num.specs.Space.{HalfSpace, is_in, is_inside}
+use Rattle.gx_num.specs.Vector4.{Vec4}
 use Rattle.gx_plane.specs.Plane.{Supports}
-use Rattle.gx_shapes.specs.Points.{is_flat}
+use Rattle.gx_shapes.specs.Points.{are_coplanar}
 use Rattle.gx_shapes.specs.Hull.{IsAtMost, IsHullOf}
 use Rattle.gx_hull.specs.Hull.{faces_of, extent_of}
 
@@ -27,4 +28,4 @@ pub record AreTheSolid (solid : List HalfSpace) (vertices : List V3) : Type 0 wh
   pub extent : (p : Vec4) → pos 0 <ℤ p.w → IsTrue (is_inside solid p) → IsWithinExtent vertices p
 
 abbrev pub FacesAreTheSolid : Type 0
-FacesAreTheSolid = (solid : List HalfSpace) (vertices : List V3) → is_flat vertices ≡ false → IsHullOf solid vertices → AreTheSolid solid vertices
+FacesAreTheSolid = (solid : List HalfSpace) (vertices : List V3) → are_coplanar vertices ≡ false → IsHullOf solid vertices → AreTheSolid solid vertices

@@ -2,7 +2,7 @@ ghost use Rattle.std.specs.Prelude.{◌≡◌, All, IfOk, IfErr, Some};
 ghost use Rattle.std.specs.List.{list_all, list_any};
 ghost use Rattle.gx_num.specs.Vector.{IsWithin};
 ghost use Rattle.gx_plane.specs.Plane.{reach};
-ghost use Rattle.gx_shapes.specs.Points.{is_flat as is_flat_list};
+ghost use Rattle.gx_shapes.specs.Points.{are_coplanar as is_flat_list};
 ghost use Rattle.gx_hull.specs.Hull.{supports as supports_of, outward as outward_of, is_same_plane, faces_of};
 ghost use Rattle.gx_hull.specs.Planes.{planes_of, has_all as all_on};
 ghost use Rattle.gx_hull.specs.declared.fault.HullFault.TheVariants.{NoMemory};
@@ -13,7 +13,7 @@ use gx_plane::Plane;
 use std::alloc::Global;
 
 /// All points are in one plane; `planes` are the planes of three of them.
-pub fn is_flat(points: &[V3], planes: &[Plane]) -> bool
+pub fn are_coplanar(points: &[V3], planes: &[Plane]) -> bool
     requires within { All (IsWithin reach) points.now }
     requires planes { planes.now ≡ planes_of points.now }
     ensures { result ≡ is_flat_list points.now }
@@ -55,7 +55,7 @@ pub fn faces(alloc: Global, points: &[V3], planes: &[Plane]) -> Result<Vec<Plane
     Ok(faces)
 }
 
-// The plane, turned so that no point is beyond it, where it has all points on one side of it or on it.
+// The plane, flipped so that no point is beyond it, where it has all points on one side of it or on it.
 fn outward(plane: Plane, points: &[V3]) -> Option<Plane>
     requires { All (IsWithin reach) points.now }
     ensures { result ≡ outward_of points.now (Some plane) }

@@ -5,7 +5,7 @@ ghost use Rattle.gx_plane.specs.Plane.{reach};
 ghost use Rattle.gx_hull.specs.Hull.{faces_of, extent_of, hull_of, IsVertices, IsHullCause};
 
 use crate::HullFault;
-use crate::faces::{faces, is_flat};
+use crate::faces::{faces, are_coplanar};
 use crate::planes::planes;
 use crate::points::{distinct, extent};
 use gx_num::{Extent, NoMemory, V3};
@@ -44,7 +44,7 @@ impl Hull {
     {
         let vertices = distinct(alloc, &points)?;
         let planes = planes(alloc, &vertices)?;
-        if is_flat(&vertices, &planes) {
+        if are_coplanar(&vertices, &planes) {
             return Err(HullFault::Flat);
         }
         let faces = faces(alloc, &vertices, &planes)?;

@@ -4,8 +4,8 @@ use Rattle.std.specs.Prelude.{unsigned_abs}
 use Rattle.std.proofs.lemmas.Int.{ints}
 use Rattle.std.proofs.lemmas.Bool.{cases_lt}
 use Rattle.gx_num.specs.declared.ray.Ray.{Ray}
-use Rattle.gx_num.specs.Space.{HalfSpace, Parameter, HasDirection, point_of_ray}
-use Rattle.gx_path.specs.Report.{IsBelow}
+use Rattle.gx_num.specs.Space.{HalfSpace}
+use Rattle.gx_num.specs.Ray.{RayParameter, HasDirection, point_of_ray, IsBelow}
 use Rattle.gx_navigator.specs.Bounded.{IsBounded}
 use Rattle.gx_navigator.specs.Limit.{limits}
 use Rattle.gx_navigator.specs.Interval.{Interval, whole, narrowed_all}
@@ -18,7 +18,7 @@ still reach k o (pos zero) h within = refl
 still reach k o (pos (suc d)) h within = absurd (omega (arith, ints))
 still reach k o (negsuc d) h within = absurd (omega (arith, ints))
 
-after : (s : Parameter) (k : ℕ) → 0 < s.den → s.num < k → IsBelow s (record { num = k; den = 1 })
+after : (s : RayParameter) (k : ℕ) → 0 < s.den → s.num < k → IsBelow s (record { num = k; den = 1 })
 after s k h l = go s.den h
   where
     go : (d : ℕ) → 0 < d → s.num * 1 < k * d
@@ -39,7 +39,7 @@ module _ (solid : List HalfSpace) (ray : Ray) (bounded : IsBounded solid) (moves
       -- all that comes later would be inside, the far points too
       endless : i.to.den ≤ 0 → ⊥
       endless none =
-          let t : Parameter = record { num = far; den = 1 } in
+          let t : RayParameter = record { num = far; den = 1 } in
           let left = narrows_whole solid ray i is in
           let met = left.into t (omega arith, omega arith) (after i.from far left.proper.positive (omega arith), before_none far i.to.num i.to.den none left.proper.above) in
           let p = bounded.within (point_of_ray ray t) (omega (arith, ints)) (meets_inside solid ray t (omega arith, omega arith) met.1) in

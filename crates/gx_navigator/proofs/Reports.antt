@@ -1,10 +1,11 @@
 -- From the interval in which a ray meets all limits to the report of the ray.
 use Rattle.std.proofs.Common.{◌≡◌, ℕ, pos, ◌/◌, ◌<◌, inl, inr, refl, ap, arith, true, false, Bool, cond, List, [], ◌∷◌, Option, None, Some}
 use Rattle.gx_num.specs.declared.ray.Ray.{Ray}
-use Rattle.gx_num.specs.Space.{HalfSpace, Parameter, HasDirection, point_of_ray, is_inside}
+use Rattle.gx_num.specs.Space.{HalfSpace, is_inside}
+use Rattle.gx_num.specs.Ray.{RayParameter, HasDirection, point_of_ray, IsBelow, IsUpTo, IsPositive}
 use Rattle.gx_fraction.specs.Fraction.{Fraction}
 use Rattle.gx_fraction.proofs.Gcd.{divisor, coprime, crossed, positive_gcd, positive_quotient}
-use Rattle.gx_path.specs.Report.{Row, IsReport, IsBelow, IsUpTo, IsPositive}
+use Rattle.gx_path.specs.Report.{Row, IsReport}
 use Rattle.gx_path.specs.Span.{parameter_of, rows_of}
 use Rattle.gx_path.specs.declared.span.Span.{Span}
 use Rattle.gx_path.proofs.Order.{lt_lt, apart}
@@ -21,7 +22,7 @@ inside_from true path e = refl
 inside_from false path e = absurd cc
 
 -- each parameter has a form in lowest terms
-lowest : (s : Parameter) → 0 < s.den → (f : Fraction) × IsRatio s f
+lowest : (s : RayParameter) → 0 < s.den → (f : Fraction) × IsRatio s f
 lowest s h =
     let g = divisor s.num s.den in
     let positive = positive_gcd s.num s.den g.greatest h g.is in (
@@ -34,7 +35,7 @@ lowest s h =
     )
 
 module _ (solid : List HalfSpace) (ray : Ray) where
-  nothing : ((t : Parameter) → IsPositive t → is_inside solid (point_of_ray ray t) ≡ true → ⊥) → IsReport (place_in solid ray) []
+  nothing : ((t : RayParameter) → IsPositive t → is_inside solid (point_of_ray ray t) ≡ true → ⊥) → IsReport (place_in solid ray) []
   nothing never = record {
     reduced = tt;
     ordered = tt;
@@ -50,7 +51,7 @@ module _ (solid : List HalfSpace) (ray : Ray) where
     left : Narrows whole (AllMeet (limits solid ray)) i
     left = narrows_whole solid ray i is
 
-    inside_between : (t : Parameter) → IsPositive t → is_inside solid (point_of_ray ray t) ≡ true → Between i t
+    inside_between : (t : RayParameter) → IsPositive t → is_inside solid (point_of_ray ray t) ≡ true → Between i t
     inside_between t h inside = left.onto t h (in_whole t h) (inside_meets solid ray t h inside)
 
     from_empty : IsUpTo i.to i.from → IsReport (place_in solid ray) []

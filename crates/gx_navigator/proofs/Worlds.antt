@@ -5,14 +5,15 @@ use Rattle.std.proofs.lemmas.Int.{ints, unsigned_abs-mul}
 use Rattle.std.proofs.lemmas.Nat.{mul-le}
 use Rattle.gx_num.specs.declared.vector.V3.{V3}
 use Rattle.gx_num.specs.declared.ray.Ray.{Ray}
-use Rattle.gx_num.specs.Space.{HalfSpace, Parameter, HasDirection, point_of_ray}
+use Rattle.gx_num.specs.Space.{HalfSpace}
+use Rattle.gx_num.specs.Ray.{RayParameter, HasDirection, point_of_ray, IsPositive, IsBelow}
 use Rattle.gx_shapes.specs.Points.{distinct}
 use Rattle.gx_shapes.specs.Shape.{IsShape, solid_of, vertices_of}
 use Rattle.gx_num.specs.declared.extent.Extent.{Extent}
 use Rattle.gx_hull.specs.Hull.{faces_of, extent_of}
 use Rattle.gx_hull.specs.Laws.{AreTheSolid, IsBetween}
 use Rattle.gx_solids.proofs.Faces.{are_the_solid}
-use Rattle.gx_path.specs.Report.{Row, IsReport, IsPositive, IsBelow}
+use Rattle.gx_path.specs.Report.{Row, IsReport}
 use Rattle.gx_tree.specs.World.{World, place_on}
 use Rattle.gx_navigator.specs.Bounded.{IsBounded, place_in}
 use Rattle.gx_navigator.proofs.Reports.{report_in}
@@ -46,13 +47,13 @@ faces_bounded solid vertices are = record {
 }
 
 -- equal places have equal reports
-constant_same : (p q : Parameter → Option (List ℕ)) → ((t : Parameter) → IsPositive t → p t ≡ q t) → (rows : List Row)
-    → AllByRecursion (λ row. (t : Parameter) → IsPositive t → IsBelow row.from t → IsBelow t row.to → p t ≡ Some row.path) rows
-    → AllByRecursion (λ row. (t : Parameter) → IsPositive t → IsBelow row.from t → IsBelow t row.to → q t ≡ Some row.path) rows
+constant_same : (p q : RayParameter → Option (List ℕ)) → ((t : RayParameter) → IsPositive t → p t ≡ q t) → (rows : List Row)
+    → AllByRecursion (λ row. (t : RayParameter) → IsPositive t → IsBelow row.from t → IsBelow t row.to → p t ≡ Some row.path) rows
+    → AllByRecursion (λ row. (t : RayParameter) → IsPositive t → IsBelow row.from t → IsBelow t row.to → q t ≡ Some row.path) rows
 constant_same p q same [] all = tt
 constant_same p q same (row ∷ rows) all = (λ t h from to. sym (same t h) ∙ all.0 t h from to, constant_same p q same rows all.1)
 
-pub IsReport-same : (p q : Parameter → Option (List ℕ)) (rows : List Row) → ((t : Parameter) → IsPositive t → p t ≡ q t) → IsReport p rows → IsReport q rows
+pub IsReport-same : (p q : RayParameter → Option (List ℕ)) (rows : List Row) → ((t : RayParameter) → IsPositive t → p t ≡ q t) → IsReport p rows → IsReport q rows
 IsReport-same p q rows same report = record {
   reduced = report.reduced;
   ordered = report.ordered;
@@ -71,7 +72,7 @@ module _ (world : World) (ray : Ray) (shape : IsShape world.solid) where
   pub world_bounded : IsBounded world_faces
   world_bounded = faces_bounded (solid_of world.solid.kind world.solid.values) (distinct (vertices_of world.solid.kind world.solid.values)) are
 
-  same_place : (t : Parameter) → IsPositive t → place_in world_faces ray t ≡ place_on world ray t
+  same_place : (t : RayParameter) → IsPositive t → place_in world_faces ray t ≡ place_on world ray t
   same_place t h = ap (λ b. cond b (Some []) None) (sym (are.same_inside (point_of_ray ray t) (omega (arith, ints, h.1))))
 
   pub world_report : (rows : List Row) → IsReport (place_in world_faces ray) rows → IsReport (place_on world ray) rows

@@ -1,7 +1,7 @@
 -- How limits narrow an interval of parameters. No public contract stands on this file.
 use Rattle.std.specs.Prelude.{◌≡◌, ◌*◌, ◌<◌, ◌^◌, Bool, nat_lt, List, [], ◌∷◌, Option, None, Some, if◌then◌else◌, pos}
-use Rattle.gx_num.specs.Space.{Parameter}
-use Rattle.gx_path.specs.Report.{IsBelow, IsUpTo, IsReduced}
+use Rattle.gx_num.specs.Ray.{RayParameter, IsBelow, IsUpTo}
+use Rattle.gx_path.specs.Report.{IsReduced}
 use Rattle.gx_path.specs.Span.{parameter_of}
 use Rattle.gx_path.specs.declared.span.Span.{Span}
 use Rattle.gx_fraction.specs.Fraction.{Fraction}
@@ -10,8 +10,8 @@ use Rattle.gx_navigator.specs.declared.limit.Limit.TheVariants.{Never, Always, B
 
 -- strictly between two parameters; a `to` with the denominator 0 stands for no end
 pub record Interval : Type 0 where
-  pub from : Parameter
-  pub to : Parameter
+  pub from : RayParameter
+  pub to : RayParameter
 
 pub record IsInterval (i : Interval) : Type 0 where
   pub from_num : i.from.num < 2 ^ 126
@@ -24,7 +24,7 @@ pub record IsInterval (i : Interval) : Type 0 where
 abbrev pub whole : Interval
 whole = record { from = record { num = 0; den = 1 }; to = record { num = 1; den = 0 } }
 
-abbrev pub below : Parameter → Parameter → Bool
+abbrev pub below : RayParameter → RayParameter → Bool
 below s t = nat_lt (s.num * t.den) (t.num * s.den)
 
 abbrev pub narrowed : Interval → Limit → Option Interval
@@ -40,7 +40,7 @@ narrowed_all (Some i) [] = Some i
 narrowed_all (Some i) (limit ∷ limits) = narrowed_all (narrowed i limit) limits
 
 -- the same number as a fraction that isn't negative, in lowest terms
-pub record IsRatio (t : Parameter) (f : Fraction) : Type 0 where
+pub record IsRatio (t : RayParameter) (f : Fraction) : Type 0 where
   pub sign : f.num ≡ pos (parameter_of f).num
   pub reduced : IsReduced (parameter_of f)
   pub same : (parameter_of f).num * t.den ≡ t.num * (parameter_of f).den

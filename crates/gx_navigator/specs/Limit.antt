@@ -2,8 +2,8 @@
 use Rattle.std.specs.Prelude.{ℤ, ◌-ℤ◌, ◌<◌, ◌^◌, pos, negsuc, zero, suc, List, map}
 use Rattle.gx_num.specs.declared.ray.Ray.{Ray}
 use Rattle.gx_num.specs.Vector.{dot_of}
-use Rattle.gx_num.specs.Space.{HalfSpace, Parameter}
-use Rattle.gx_path.specs.Report.{IsBelow}
+use Rattle.gx_num.specs.Space.{HalfSpace}
+use Rattle.gx_num.specs.Ray.{RayParameter, IsBelow}
 use Rattle.gx_navigator.specs.declared.limit.Limit.{Limit}
 use Rattle.gx_navigator.specs.declared.limit.Limit.TheVariants.{Never, Always, Below, Above}
 
@@ -19,7 +19,7 @@ limit_of slope level = Never
 abbrev pub limit_on : HalfSpace → Ray → Limit
 limit_on h ray = limit_of (dot_of h.n ray.d) (h.e -ℤ dot_of h.n ray.o)
 
-abbrev pub Meets : Limit → Parameter → Type 0
+abbrev pub Meets : Limit → RayParameter → Type 0
 Meets Never t = ⊥
 Meets Always t = Unit {0}
 Meets (Below num den) t = IsBelow t (record { num = num; den = den })

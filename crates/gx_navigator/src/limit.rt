@@ -1,6 +1,6 @@
 ghost use Rattle.std.specs.Prelude.{◌≡◌, ◌≤◌, ◌<◌, ◌^◌, ◌-ℤ◌, unsigned_abs};
 ghost use Rattle.gx_num.specs.Vector.{IsWithin};
-ghost use Rattle.gx_plane.specs.Plane.{level_reach};
+ghost use Rattle.gx_plane.specs.Plane.{offset_reach};
 ghost use Rattle.gx_navigator.specs.Limit.{limit_of, limit_on, IsSmall};
 
 use gx_num::Ray;
@@ -27,7 +27,7 @@ pub fn limit_along(face: &Plane, ray: &Ray) -> Limit
 
 // How far a height is below a level.
 fn room(level: i128, height: i128) -> i128
-    requires level { unsigned_abs level ≤ level_reach }
+    requires level { unsigned_abs level ≤ offset_reach }
     requires height { unsigned_abs height ≤ 2 ^ 124 }
     ensures value { result ≡ level -ℤ height }
     ensures bound { unsigned_abs result < 2 ^ 126 }

@@ -1,6 +1,6 @@
 ghost use Rattle.std.specs.Prelude.{◌^◌};
 ghost use Rattle.gx_num.specs.Vector.{IsWithin};
-ghost use Rattle.gx_num.specs.Space.{HasDirection};
+ghost use Rattle.gx_num.specs.Ray.{HasDirection};
 ghost use Rattle.gx_path.specs.Report.{IsReport};
 ghost use Rattle.gx_path.specs.Span.{rows_of};
 ghost use Rattle.gx_navigator.specs.Bounded.{IsBounded, place_in};

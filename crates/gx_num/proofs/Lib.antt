@@ -1,2 +1,2 @@
 mod Products
-pub mod Greatest
+pub mod Divisors

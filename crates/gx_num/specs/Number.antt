@@ -1,5 +1,7 @@
--- Whole numbers.
-use Rattle.std.specs.Prelude.{ℕ, ℤ, pos, negsuc, zero, suc, ◌%◌, Bool, ◌==◌, ◌&&◌, if◌then◌else◌}
+-- Whole numbers: signs, common divisors and lowest terms (any text on arithmetic).
+use Rattle.std.specs.Prelude.{ℕ, ℤ, pos, negsuc, zero, suc, ◌%◌, ◌<◌, max, Bool, ◌==◌, if◌then◌else◌, List, [], ◌∷◌}
+use Rattle.std.specs.List.{list_all}
+use Rattle.std.specs.Int.{IsGcd}
 
 -- -1, 0 or 1, as the number is below, at or above 0
 abbrev pub sign_of : ℤ → ℤ
@@ -12,6 +14,15 @@ abbrev pub greatest_up_to : ℕ → (ℕ → Bool) → ℕ
 greatest_up_to zero test = 0
 greatest_up_to (suc n) test = if test (suc n) then suc n else greatest_up_to n test
 
--- the greatest common divisor; b is above 0
-unfoldable pub common_divisor : ℕ → ℕ → ℕ
-common_divisor a b = greatest_up_to b (λ d. a % d == 0 && b % d == 0)
+abbrev pub largest : List ℕ → ℕ
+largest [] = 0
+largest (n ∷ ns) = max n (largest ns)
+
+-- the greatest number that divides them all; of zeros alone it is 0
+unfoldable pub common_divisor : List ℕ → ℕ
+common_divisor ns = greatest_up_to (largest ns) (λ d. list_all (λ n. n % d == 0) ns)
+
+-- num/den is in lowest terms: den is above 0, and no number above 1 divides both
+pub record IsLowest (num den : ℕ) : Type 0 where
+  pub positive : 0 < den
+  pub coprime : IsGcd num den 1

@@ -5,6 +5,8 @@ mod extent;
 mod memory;
 mod number;
 mod ray;
+#[cfg(test)]
+mod tests;
 mod vector;
 
 pub use extent::Extent;

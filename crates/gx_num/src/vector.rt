@@ -1,7 +1,7 @@
 ghost use Rattle.std.specs.Prelude.{◌≡◌, ◌^◌, ◌+◌, ◌≤◌, unsigned_abs};
 
 /// The greatest magnitude of a coordinate in steps: of solids, offsets, and ray origins and directions.
-pub const M: i64 = 262144;
+pub const M: i64 = 16777216;
 
 /// A vector of whole numbers, as a point or a direction of space.
 #[derive(Clone, Copy, Debug, PartialEq, Eq)]
@@ -12,40 +12,43 @@ pub struct V3 {
 }
 
 impl V3 {
-    ghost use Rattle.gx_num.specs.Vector.{IsWithin, IsSum, IsDifference, IsOpposite, IsCross, dot_of};
+    ghost use Rattle.gx_num.specs.Vector.{IsWithin, sum_of, difference_of, opposite_of, cross_of, dot_of};
 
+    /// The sum.
     pub fn add(self, o: V3) -> V3
         requires first { IsWithin (2 ^ 61) self }
         requires second { IsWithin (2 ^ 61) o }
-        ensures { IsSum self o result }
+        ensures { result ≡ sum_of self o }
     {
         V3 {
-            x: self.x + o.x,
-            y: self.y + o.y,
-            z: self.z + o.z,
+            x: short_plus(self.x, o.x),
+            y: short_plus(self.y, o.y),
+            z: short_plus(self.z, o.z),
         }
     }
 
+    /// The difference.
     pub fn sub(self, o: V3) -> V3
         requires first { IsWithin (2 ^ 61) self }
         requires second { IsWithin (2 ^ 61) o }
-        ensures { IsDifference self o result }
+        ensures { result ≡ difference_of self o }
     {
         V3 {
-            x: self.x - o.x,
-            y: self.y - o.y,
-            z: self.z - o.z,
+            x: short_minus(self.x, o.x),
+            y: short_minus(self.y, o.y),
+            z: short_minus(self.z, o.z),
         }
     }
 
+    /// The opposite.
     pub fn neg(self) -> V3
         requires { IsWithin (2 ^ 61) self }
-        ensures { IsOpposite self result }
+        ensures { result ≡ opposite_of self }
     {
         V3 {
-            x: -self.x,
-            y: -self.y,
-            z: -self.z,
+            x: short_minus(0, self.x),
+            y: short_minus(0, self.y),
+            z: short_minus(0, self.z),
         }
     }
 
@@ -66,7 +69,7 @@ impl V3 {
     pub fn cross(self, o: V3) -> V3
         requires first { IsWithin (2 ^ 30) self }
         requires second { IsWithin (2 ^ 30) o }
-        ensures { IsCross self o result }
+        ensures { result ≡ cross_of self o }
     {
         V3 {
             x: minor(self.y, o.z, self.z, o.y),
@@ -106,9 +109,17 @@ fn short_times(a: i64, b: i64) -> i64
     a * b
 }
 
-fn minus(a: i64, b: i64) -> i64
-    requires first { unsigned_abs a ≤ 2 ^ 60 }
-    requires second { unsigned_abs b ≤ 2 ^ 60 }
+fn short_plus(a: i64, b: i64) -> i64
+    requires first { unsigned_abs a ≤ 2 ^ 61 }
+    requires second { unsigned_abs b ≤ 2 ^ 61 }
+    ensures { result ≡ a +ℤ b }
+{
+    a + b
+}
+
+fn short_minus(a: i64, b: i64) -> i64
+    requires first { unsigned_abs a ≤ 2 ^ 61 }
+    requires second { unsigned_abs b ≤ 2 ^ 61 }
     ensures { result ≡ a -ℤ b }
 {
     a - b
@@ -122,5 +133,5 @@ fn minor(a: i64, b: i64, c: i64, d: i64) -> i64
     requires d { unsigned_abs d ≤ 2 ^ 30 }
     ensures { result ≡ (a *ℤ b) -ℤ (c *ℤ d) }
 {
-    minus(short_times(a, b), short_times(c, d))
+    short_minus(short_times(a, b), short_times(c, d))
 }

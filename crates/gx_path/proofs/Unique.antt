@@ -1,26 +1,26 @@
 -- A ray has one report at most.
 use Rattle.std.proofs.Common.{◌≡◌, ◌≢◌, ℕ, ◌<◌, inl, inr, refl, sym, ◌∙◌, subst, arith, List, [], ◌∷◌, Option, Some}
 use Rattle.std.specs.List.{AllByRecursion}
-use Rattle.gx_num.specs.Space.{Parameter}
+use Rattle.gx_num.specs.Ray.{RayParameter, IsPositive, IsBelow, IsUpTo}
 use Rattle.gx_fraction.proofs.Gcd.{one_form}
-use Rattle.gx_path.specs.Report.{Row, IsReport, IsPositive, IsBelow, IsUpTo, IsReduced, WithNext, EachNext, SomeRow}
+use Rattle.gx_path.specs.Report.{Row, IsReport, IsReduced, WithNext, EachNext, SomeRow}
 use Rattle.gx_path.proofs.Order.{le_le, le_lt, lt_le, lt_lt, apart, lesser, mediant, above_mediant, below_mediant, positive_mediant}
 
-abbrev pub Begins : Parameter → List Row → Type 0
+abbrev pub Begins : RayParameter → List Row → Type 0
 Begins low [] = Unit {0}
 Begins low (row ∷ rows) = IsUpTo low row.from
 
 -- the rows report what lies above a parameter
-pub record IsReportAbove (place : Parameter → Option (List ℕ)) (low : Parameter) (rows : List Row) : Type 0 where
+pub record IsReportAbove (place : RayParameter → Option (List ℕ)) (low : RayParameter) (rows : List Row) : Type 0 where
   pub reduced : AllByRecursion (λ row. IsReduced row.from × IsReduced row.to × IsBelow row.from row.to) rows
   pub ordered : EachNext (λ row next. IsUpTo row.to next.from) rows
-  pub constant : AllByRecursion (λ row. (t : Parameter) → IsPositive t → IsBelow row.from t → IsBelow t row.to → place t ≡ Some row.path) rows
+  pub constant : AllByRecursion (λ row. (t : RayParameter) → IsPositive t → IsBelow row.from t → IsBelow t row.to → place t ≡ Some row.path) rows
   pub maximal : EachNext (λ row next. IsUpTo next.from row.to → row.path ≢ next.path) rows
-  pub complete : (t : Parameter) (path : List ℕ) → IsPositive t → IsBelow low t → place t ≡ Some path → SomeRow (λ row. IsUpTo row.from t × IsUpTo t row.to) rows
+  pub complete : (t : RayParameter) (path : List ℕ) → IsPositive t → IsBelow low t → place t ≡ Some path → SomeRow (λ row. IsUpTo row.from t × IsUpTo t row.to) rows
   pub begins : Begins low rows
 
 -- a parameter that is in a row, or at an end of one, isn't before the first
-covers_from : (x : Row) (xs : List Row) (t : Parameter)
+covers_from : (x : Row) (xs : List Row) (t : RayParameter)
     → AllByRecursion (λ row. IsReduced row.from × IsReduced row.to × IsBelow row.from row.to) (x ∷ xs) → EachNext (λ row next. IsUpTo row.to next.from) (x ∷ xs)
     → SomeRow (λ row. IsUpTo row.from t × IsUpTo t row.to) (x ∷ xs) → IsUpTo x.from t
 covers_from x [] t r o (inl in_x) = in_x.0
@@ -38,18 +38,18 @@ begins_next x (next ∷ xs) h = h
 some_same : (p q : List ℕ) (o : Option (List ℕ)) → o ≡ Some p → o ≡ Some q → p ≡ q
 some_same p q o e f = cc
 
-module _ (place : Parameter → Option (List ℕ)) (low : Parameter) (x : Row) (xs : List Row) (report : IsReportAbove place low (x ∷ xs)) where
+module _ (place : RayParameter → Option (List ℕ)) (low : RayParameter) (x : Row) (xs : List Row) (report : IsReportAbove place low (x ∷ xs)) where
   here : IsReduced x.from × IsReduced x.to × IsBelow x.from x.to
   here = report.reduced.0
 
   -- a parameter strictly inside the first row
-  inside : Parameter
+  inside : RayParameter
   inside = mediant x.from x.to
 
   inside_positive : IsPositive (mediant x.from x.to)
   inside_positive = positive_mediant x.from x.to here.0.0 here.2
 
-  above_low : (t : Parameter) → 0 < low.den → IsBelow x.from t → IsBelow low t
+  above_low : (t : RayParameter) → 0 < low.den → IsBelow x.from t → IsBelow low t
   above_low t d h = le_lt low x.from t d report.begins h
 
   at_inside : place (mediant x.from x.to) ≡ Some x.path
@@ -70,7 +70,7 @@ module _ (place : Parameter → Option (List ℕ)) (low : Parameter) (x : Row) (
   }
 
 -- a report above `low` that has no row, where another has one
-none_for_some : (place : Parameter → Option (List ℕ)) (low : Parameter) → 0 < low.den → (x : Row) (xs : List Row)
+none_for_some : (place : RayParameter → Option (List ℕ)) (low : RayParameter) → 0 < low.den → (x : Row) (xs : List Row)
     → IsReportAbove place low (x ∷ xs) → IsReportAbove place low [] → ⊥
 none_for_some place low d x xs p q =
     let here = p.reduced.0 in
@@ -78,7 +78,7 @@ none_for_some place low d x xs p q =
     q.complete t x.path (inside_positive place low x xs p) (above_low place low x xs p t d (above_mediant x.from x.to here.2)) (at_inside place low x xs p)
 
 -- two reports, the rows of both from `low` on
-module _ (place : Parameter → Option (List ℕ)) (low : Parameter) (d : 0 < low.den) (x y : Row) (xs ys : List Row)
+module _ (place : RayParameter → Option (List ℕ)) (low : RayParameter) (d : 0 < low.den) (x y : Row) (xs ys : List Row)
     (p : IsReportAbove place low (x ∷ xs)) (q : IsReportAbove place low (y ∷ ys)) where
   dx : IsReduced x.from × IsReduced x.to × IsBelow x.from x.to
   dx = p.reduced.0
@@ -104,7 +104,7 @@ module _ (place : Parameter → Option (List ℕ)) (low : Parameter) (d : 0 < lo
   ]
 
   -- while the second row lasts, it is where the ray is
-  in_second : IsUpTo y.from x.from → (t : Parameter) → IsPositive t → IsBelow x.to t → IsBelow t y.to → place t ≡ Some y.path
+  in_second : IsUpTo y.from x.from → (t : RayParameter) → IsPositive t → IsBelow x.to t → IsBelow t y.to → place t ≡ Some y.path
   in_second by t h over under = q.constant.0 t h (lt_lt y.from x.to t dy.0.0 (le_lt y.from x.from x.to dy.0.0 by dx.2) over) under
 
   pub one_path : IsUpTo y.from x.from → IsUpTo x.to y.to → x.path ≡ y.path
@@ -116,7 +116,7 @@ module _ (place : Parameter → Option (List ℕ)) (low : Parameter) (d : 0 < lo
       (q.constant.0 t (inside_positive place low x xs p) (le_lt y.from x.from t dy.0.0 by over) (lt_le t x.to y.to dy.1.0 under to))
 
 -- the second doesn't end later: what follows the first would be at the same path
-gap : (place : Parameter → Option (List ℕ)) (low : Parameter) → 0 < low.den → (x y : Row) (xs ys : List Row)
+gap : (place : RayParameter → Option (List ℕ)) (low : RayParameter) → 0 < low.den → (x y : Row) (xs ys : List Row)
     → IsReportAbove place low (x ∷ xs) → IsReportAbove place low (y ∷ ys) → IsUpTo y.from x.from → IsBelow x.to y.to → ⊥
 gap place low d x y [] ys p q by below =
     let t = mediant x.to y.to in
@@ -171,19 +171,19 @@ gap place low d x y (next ∷ xs) ys p q by below = elim (apart x.to next.from) 
         let paths = one_path place low d x y (next ∷ xs) ys p q by (omega (arith, below)) in
         p.maximal.0 meet (paths ∙ some_same y.path next.path (place t) second first)
 
-abbrev parameter : ℕ → ℕ → Parameter
+abbrev parameter : ℕ → ℕ → RayParameter
 parameter num den = record { num = num; den = den }
 
-abbrev row : Parameter → Parameter → List ℕ → Row
+abbrev row : RayParameter → RayParameter → List ℕ → Row
 row from to path = record { from = from; to = to; path = path }
 
-same_parameter : (s t : Parameter) → IsReduced s → IsReduced t → IsUpTo s t → IsUpTo t s → s ≡ t
+same_parameter : (s t : RayParameter) → IsReduced s → IsReduced t → IsUpTo s t → IsUpTo t s → s ≡ t
 same_parameter s t p q le ge =
     let e = one_form s.num s.den t.num t.den p.0 p.1 q.1 (omega (arith, le, ge)) in
     let is : parameter s.num s.den ≡ parameter t.num t.den = cc (e.0, e.1) in
     is
 
-pub unique_above : (place : Parameter → Option (List ℕ)) (low : Parameter) → 0 < low.den → (xs ys : List Row) → IsReportAbove place low xs → IsReportAbove place low ys → xs ≡ ys
+pub unique_above : (place : RayParameter → Option (List ℕ)) (low : RayParameter) → 0 < low.den → (xs ys : List Row) → IsReportAbove place low xs → IsReportAbove place low ys → xs ≡ ys
 unique_above place low d [] [] p q = refl
 unique_above place low d [] (y ∷ ys) p q = absurd (none_for_some place low d y ys q p)
 unique_above place low d (x ∷ xs) [] p q = absurd (none_for_some place low d x xs p q)
@@ -202,7 +202,7 @@ unique_above place low d (x ∷ xs) (y ∷ ys) p q =
     let all : row x.from x.to x.path ∷ xs ≡ row y.from y.to y.path ∷ ys = cc (first, rest) in
     all
 
-from_zero : (place : Parameter → Option (List ℕ)) (rows : List Row) → IsReport place rows → IsReportAbove place (record { num = 0; den = 1 }) rows
+from_zero : (place : RayParameter → Option (List ℕ)) (rows : List Row) → IsReport place rows → IsReportAbove place (record { num = 0; den = 1 }) rows
 from_zero place rows r = record {
   reduced = r.reduced;
   ordered = r.ordered;
@@ -216,5 +216,5 @@ from_zero place rows r = record {
     start [] = tt
     start (row ∷ rows) = omega arith
 
-pub unique : (place : Parameter → Option (List ℕ)) (xs ys : List Row) → IsReport place xs → IsReport place ys → xs ≡ ys
+pub unique : (place : RayParameter → Option (List ℕ)) (xs ys : List Row) → IsReport place xs → IsReport place ys → xs ≡ ys
 unique place xs ys p q = unique_above place (record { num = 0; den = 1 }) (omega arith) xs ys (from_zero place xs p) (from_zero place ys q)

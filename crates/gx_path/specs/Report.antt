@@ -2,27 +2,13 @@
 use Rattle.std.specs.Prelude.{◌≡◌, ◌≢◌, ◌⊎◌, ℕ, ◌*◌, ◌<◌, ◌≤◌, List, [], ◌∷◌, Option, Some}
 use Rattle.std.specs.List.{AllByRecursion}
 use Rattle.std.specs.Int.{IsGcd}
-use Rattle.gx_num.specs.Space.{Parameter}
+use Rattle.gx_num.specs.Ray.{RayParameter}
 
 -- between two parameters a list of ordinals leads from the world to the deepest volume
 pub record Row : Type 0 where
-  pub from : Parameter
-  pub to : Parameter
+  pub from : RayParameter
+  pub to : RayParameter
   pub path : List ℕ
-
-abbrev pub IsPositive : Parameter → Type 0
-IsPositive t = (0 < t.num) × (0 < t.den)
-
--- the order of fractions, by products crosswise
-abbrev pub IsBelow : Parameter → Parameter → Type 0
-IsBelow s t = s.num * t.den < t.num * s.den
-
-abbrev pub IsUpTo : Parameter → Parameter → Type 0
-IsUpTo s t = s.num * t.den ≤ t.num * s.den
-
--- lowest terms: the denominator is above 0, and no number above 1 divides both
-abbrev pub IsReduced : Parameter → Type 0
-IsReduced t = (0 < t.den) × IsGcd t.num t.den 1
 
 -- R holds of the row and the first of the rows after it, if there is one
 abbrev pub WithNext : (Row → Row → Type 0) → Row → List Row → Type 0
@@ -40,14 +26,14 @@ SomeRow P [] = ⊥
 SomeRow P (row ∷ rows) = P row ⊎ SomeRow P rows
 
 -- These rows are the report of a ray for which `place` tells where each parameter is: nowhere in the world, or in the volume at a path.
-pub record IsReport (place : Parameter → Option (List ℕ)) (rows : List Row) : Type 0 where
+pub record IsReport (place : RayParameter → Option (List ℕ)) (rows : List Row) : Type 0 where
   -- each row's ends are in lowest terms, the first below the second
-  pub reduced : AllByRecursion (λ row. IsReduced row.from × IsReduced row.to × IsBelow row.from row.to) rows
+  pub reduced : AllByRecursion (λ row. IsLowest row.from.num row.from.den × IsLowest row.to.num row.to.den × IsBelow row.from row.to) rows
   -- each row ends no later than the next begins
   pub ordered : EachNext (λ row next. IsUpTo row.to next.from) rows
   -- strictly between a row's ends, each parameter is at the row's path
-  pub constant : AllByRecursion (λ row. (t : Parameter) → IsPositive t → IsBelow row.from t → IsBelow t row.to → place t ≡ Some row.path) rows
+  pub constant : AllByRecursion (λ row. (t : RayParameter) → IsPositive t → IsBelow row.from t → IsBelow t row.to → place t ≡ Some row.path) rows
   -- two rows that meet have different paths
   pub maximal : EachNext (λ row next. IsUpTo next.from row.to → row.path ≢ next.path) rows
   -- each parameter above 0 that is in the world is in a row or an end of one
-  pub complete : (t : Parameter) (path : List ℕ) → IsPositive t → place t ≡ Some path → SomeRow (λ row. IsUpTo row.from t × IsUpTo t row.to) rows
+  pub complete : (t : RayParameter) (path : List ℕ) → IsPositive t → place t ≡ Some path → SomeRow (λ row. IsUpTo row.from t × IsUpTo t row.to) rows

@@ -3,15 +3,14 @@ use Rattle.std.proofs.Common.{◌≡◌, ◌⊎◌, inl, inr, ℕ, zero, suc, �
 use Rattle.std.proofs.lemmas.Option.{slice_get-get_or}
 use Rattle.std.proofs.Math.Nat.{zero-div}
 use Rattle.gx_num.specs.declared.vector.V3.{V3}
-use Rattle.gx_num.specs.Vector.{dot_of}
+use Rattle.gx_num.specs.Vector.{dot_of, difference_of}
 use Rattle.gx_num.specs.Space.{HalfSpace}
-use Rattle.gx_algebra.specs.Vectors.{difference_of}
 use Rattle.gx_algebra.proofs.Terms as term
 use Rattle.gx_algebra.proofs.Terms.{Term3, ◌≣◌, ◌≣³◌, ◌⊖◌, none}
 use Rattle.gx_algebra.proofs.Identity.{identity, identity3, vector3}
 use Rattle.gx_algebra.proofs.Identities.{same3}
 use Rattle.gx_algebra.proofs.Order.{zero_of_mul}
-use Rattle.gx_plane.specs.Plane.{divisor_of, primitive, side_of, turned, normal_of, plane_at, plane_through}
+use Rattle.gx_plane.specs.Plane.{divisor_of, primitive, side_of, flipped, normal_of, plane_at, plane_through}
 use Rattle.gx_plane.specs.Between.{pairs_of, triples_of, both_ways, candidates}
 use Rattle.gx_plane.proofs.Divisors.{divisor_of-same}
 use Rattle.gx_plane.proofs.Invariants.{some-plane_through}
@@ -69,11 +68,11 @@ plane_through-turn a b c h e =
     let is = plane_through_some a b c h e in
     sym (some-plane_through b c a (normal_of a b c) (primitive (normal_of a b c)) (dot_of (primitive (normal_of a b c)) a) (normal_of-turn a b c) is.apart refl (level_second a b c is.apart)) ∙ ap Some (sym is.same)
 
-pub plane_through-swap : (a b c : V3) (h : HalfSpace) → plane_through a b c ≡ Some h → plane_through b a c ≡ Some (turned h)
+pub plane_through-swap : (a b c : V3) (h : HalfSpace) → plane_through a b c ≡ Some h → plane_through b a c ≡ Some (flipped h)
 plane_through-swap a b c h e =
     let is = plane_through_some a b c h e in
     let v = normal_of a b c in
-    sym (some-plane_through b a c (opposite3 v) (opposite3 (primitive v)) (pos 0 -ℤ dot_of (primitive v) a) (normal_of-swap a b c) (omega (arith, opposite_divisor v, is.apart)) (primitive-opposite v) (ap (λ (z : ℤ). pos 0 -ℤ z) (level_second a b c is.apart) ∙ sym (opposite-dot (primitive v) b))) ∙ ap (λ (k : HalfSpace). Some (turned k)) (sym is.same)
+    sym (some-plane_through b a c (opposite3 v) (opposite3 (primitive v)) (pos 0 -ℤ dot_of (primitive v) a) (normal_of-swap a b c) (omega (arith, opposite_divisor v, is.apart)) (primitive-opposite v) (ap (λ (z : ℤ). pos 0 -ℤ z) (level_second a b c is.apart) ∙ sym (opposite-dot (primitive v) b))) ∙ ap (λ (k : HalfSpace). Some (flipped k)) (sym is.same)
   where
     opposite-dot : (n p : V3) → dot_of (opposite3 n) p ≡ pos 0 -ℤ dot_of n p
     opposite-dot = identity (vector3 ∷ vector3 ∷ []) (λ n p. term.dot_of (record { x = none ⊖ n.x; y = none ⊖ n.y; z = none ⊖ n.z }) p ≣ none ⊖ term.dot_of n p) tt
@@ -129,24 +128,24 @@ Has-triples_of (s ∷ points) (suc i) (suc j) (suc k) p q r lt lt' e f g =
     Has-append_right (map (λ (t : V3 × V3). (s, t.0, t.1)) (pairs_of points)) (triples_of points) (p, q, r) (Has-triples_of points i j k p q r (omega arith) (omega arith) e f g)
 
 -- ---- three points of a list
--- the plane and the same plane turned are candidates
+-- the plane and the same plane flipped are candidates
 record IsCandidate (points : List V3) (h : HalfSpace) : Type 0 where
   itself : Has (candidates points) h
-  other : Has (candidates points) (turned h)
+  other : Has (candidates points) (flipped h)
 
-pub turned-turned : (h : HalfSpace) → turned (turned h) ≡ h
-turned-turned h = λ i. record { n = record { x = again h.n.x i; y = again h.n.y i; z = again h.n.z i }; e = again h.e i }
+pub flipped-flipped : (h : HalfSpace) → flipped (flipped h) ≡ h
+flipped-flipped h = λ i. record { n = record { x = again h.n.x i; y = again h.n.y i; z = again h.n.z i }; e = again h.e i }
   where
     again : (a : ℤ) → pos 0 -ℤ (pos 0 -ℤ a) ≡ a
     again a = omega (arith, ints)
 
-IsCandidate-turned : (points : List V3) (h : HalfSpace) → IsCandidate points (turned h) → IsCandidate points h
-IsCandidate-turned points h c = record { itself = subst (Has (candidates points)) (turned-turned h) c.other; other = c.itself }
+IsCandidate-flipped : (points : List V3) (h : HalfSpace) → IsCandidate points (flipped h) → IsCandidate points h
+IsCandidate-flipped points h c = record { itself = subst (Has (candidates points)) (flipped-flipped h) c.other; other = c.itself }
 
 in_order : (points : List V3) (i j k : ℕ) (p q r : V3) (h : HalfSpace) → i < j → j < k → slice_get points i ≡ Some p → slice_get points j ≡ Some q → slice_get points k ≡ Some r → plane_through p q r ≡ Some h → IsCandidate points h
 in_order points i j k p q r h lt lt' e f g is = record {
   itself = found h (inl refl);
-  other = found (turned h) (inr (inl refl));
+  other = found (flipped h) (inr (inl refl));
 }
   where
     found : (v : HalfSpace) → Has (both_ways (Some h)) v → Has (candidates points) v
@@ -180,17 +179,17 @@ at_places points i j k p q r h e f g pqr =
     (λ jk. in_order points i j k p q r h ij jk e f g pqr)
     (λ jk. absurd (not_twice q p h (subst (λ (v : V3). plane_through q v p ≡ Some h) (sym (one j k q r jk f g)) qrp)))
     (λ kj. by_order i k
-    (λ ik. IsCandidate-turned points h (in_order points i k j p r q (turned h) ik kj e g f prq))
+    (λ ik. IsCandidate-flipped points h (in_order points i k j p r q (flipped h) ik kj e g f prq))
     (λ ik. absurd (not_twice p q h (subst (λ (v : V3). plane_through v p q ≡ Some h) (sym (one i k p r ik e g)) rpq)))
     (λ ki. in_order points k i j r p q h ki ij g e f rpq)))
     (λ ij. absurd (not_twice p r h (subst (λ (v : V3). plane_through p v r ≡ Some h) (sym (one i j p q ij e f)) pqr)))
     (λ ji. by_order i k
-    (λ ik. IsCandidate-turned points h (in_order points j i k q p r (turned h) ji ik f e g qpr))
+    (λ ik. IsCandidate-flipped points h (in_order points j i k q p r (flipped h) ji ik f e g qpr))
     (λ ik. absurd (not_twice p q h (subst (λ (v : V3). plane_through v p q ≡ Some h) (sym (one i k p r ik e g)) rpq)))
     (λ ki. by_order j k
     (λ jk. in_order points j k i q r p h jk ki f g e qrp)
     (λ jk. absurd (not_twice q p h (subst (λ (v : V3). plane_through q v p ≡ Some h) (sym (one j k q r jk f g)) qrp)))
-    (λ kj. IsCandidate-turned points h (in_order points k j i r q p (turned h) kj ji g f e rqp))))
+    (λ kj. IsCandidate-flipped points h (in_order points k j i r q p (flipped h) kj ji g f e rqp))))
   where
     one : (m n : ℕ) (a b : V3) → m ≡ n → slice_get points m ≡ Some a → slice_get points n ≡ Some b → a ≡ b
     one m n a b same x y = some_same (sym x ∙ ap (slice_get points) same ∙ y)
@@ -204,14 +203,14 @@ at_places points i j k p q r h e f g pqr =
     rpq : plane_through r p q ≡ Some h
     rpq = plane_through-turn q r p h (plane_through-turn p q r h pqr)
 
-    qpr : plane_through q p r ≡ Some (turned h)
+    qpr : plane_through q p r ≡ Some (flipped h)
     qpr = plane_through-swap p q r h pqr
 
-    prq : plane_through p r q ≡ Some (turned h)
-    prq = plane_through-turn q p r (turned h) (plane_through-swap p q r h pqr)
+    prq : plane_through p r q ≡ Some (flipped h)
+    prq = plane_through-turn q p r (flipped h) (plane_through-swap p q r h pqr)
 
-    rqp : plane_through r q p ≡ Some (turned h)
-    rqp = plane_through-turn p r q (turned h) (plane_through-turn q p r (turned h) (plane_through-swap p q r h pqr))
+    rqp : plane_through r q p ≡ Some (flipped h)
+    rqp = plane_through-turn p r q (flipped h) (plane_through-turn q p r (flipped h) (plane_through-swap p q r h pqr))
 
 find-none : (test : HalfSpace → Bool) (hs : List HalfSpace) (h : HalfSpace) → find test hs ≡ None → Has hs h → test h ≡ false
 find-none test [] h e m = absurd m
@@ -223,10 +222,10 @@ find-none test (g ∷ hs) h e m = step (test g) refl (λ k n. find-none test hs 
     step false t rest k (inr n) = rest k n
 
 -- where no candidate passes a test, no plane through three of the points passes it, neither way
-pub none_passes : (test : HalfSpace → Bool) (points : List V3) (p q r : V3) (h : HalfSpace) → find test (candidates points) ≡ None → Contains points p → Contains points q → Contains points r → plane_through p q r ≡ Some h → (test h ≡ false) × (test (turned h) ≡ false)
+pub none_passes : (test : HalfSpace → Bool) (points : List V3) (p q r : V3) (h : HalfSpace) → find test (candidates points) ≡ None → Contains points p → Contains points q → Contains points r → plane_through p q r ≡ Some h → (test h ≡ false) × (test (flipped h) ≡ false)
 none_passes test points p q r h none in_p in_q in_r e =
     let c = at_places points in_p.0 in_q.0 in_r.0 p q r h (place p in_p) (place q in_q) (place r in_r) e in
-    (find-none test (candidates points) h none c.itself, find-none test (candidates points) (turned h) none c.other)
+    (find-none test (candidates points) h none c.itself, find-none test (candidates points) (flipped h) none c.other)
   where
     place : (v : V3) (m : Contains points v) → slice_get points m.0 ≡ Some v
     place v m = slice_get-get_or points m.0 v m.1 ∙ ap Some m.2

@@ -4,10 +4,10 @@ use Rattle.std.specs.List.{list_all}
 use Rattle.std.proofs.lemmas.List.Sums.{list_all-from_AllPass}
 use Rattle.std.proofs.lemmas.List.Elements.{All-weaker, Contains-append_left, Contains-append_right, Contains-append_cases}
 use Rattle.gx_num.specs.declared.vector.V3.{V3}
-use Rattle.gx_num.specs.Vector.{dot_of}
-use Rattle.gx_num.specs.Space.{Vec4, HalfSpace}
+use Rattle.gx_num.specs.Vector.{dot_of, difference_of}
+use Rattle.gx_num.specs.Space.{HalfSpace}
+use Rattle.gx_num.specs.Vector4.{Vec4, dot4, times4, opposite4, minors}
 use Rattle.gx_algebra.proofs.Lists.{All-append_parts, All-from_map, Contains-unmap}
-use Rattle.gx_algebra.specs.Vectors.{difference_of, dot4, times4, opposite4, minors}
 use Rattle.gx_algebra.proofs.Ring.{num}
 use Rattle.gx_algebra.proofs.Terms as term
 use Rattle.gx_algebra.proofs.Terms.{Term3, Term4, ◌≣◌, ◌≣⁴◌, ◌⊕◌, ◌⊖◌, ◌⊗◌, none}
@@ -16,10 +16,10 @@ use Rattle.gx_algebra.proofs.Laws.{one-mul, mul-zero}
 use Rattle.gx_algebra.proofs.Order.{nonneg_of_mul, le_of_mul-le-left}
 use borrow.Author.Differences.{ints}
 use Rattle.gx_plane.specs.Laws.{IsAbove, Spans, IsBeyond, IsFromThree}
-use Rattle.gx_plane.specs.Plane.{divisor_of, side_of, turned, normal_of, plane_through}
+use Rattle.gx_plane.specs.Plane.{divisor_of, side_of, flipped, normal_of, plane_through}
 use Rattle.gx_plane.specs.Between.{is_between, candidates}
 use Rattle.gx_plane.proofs.Tilts.{tilted}
-use Rattle.gx_plane.proofs.PlaneFacts.{side_of-plane_through, side_of-turned, plane_through_some, plane_through_none}
+use Rattle.gx_plane.proofs.PlaneFacts.{side_of-plane_through, side_of-flipped, plane_through_some, plane_through_none}
 use Rattle.gx_plane.proofs.Search.{at_most}
 use Rattle.gx_plane.proofs.Candidates.{normal_term, none_passes}
 
@@ -93,7 +93,7 @@ side_of_member a b m h = go (Contains-append_cases (map within a) (map beyond b)
 opposite4-times4 : (k : ℤ) (v : Vec4) → opposite4 (times4 k v) ≡ times4 (pos 0 -ℤ k) v
 opposite4-times4 = identity4 (number ∷ vector4 ∷ []) (λ k v. term.opposite4 (term.times4 k v) ≣⁴ term.times4 (none ⊖ k) v) tt
 
--- what is from three members is the plane of three points, or the same turned
+-- what is from three members is the plane of three points, or the same flipped
 record IsOfPoints (points : List V3) (w : Vec4) : Type 0 where
   p : V3
   q : V3
@@ -180,7 +180,7 @@ none_between a b h g spans is none = from (tilted (sides a b) g spans (lifted h)
         apart : 0 < divisor_of (normal_of o.p o.q o.r)
         apart = (plane_through_some o.p o.q o.r k e).apart
 
-        fails : (is_between a b k ≡ false) × (is_between a b (turned k) ≡ false)
+        fails : (is_between a b k ≡ false) × (is_between a b (flipped k) ≡ false)
         fails = none_passes (is_between a b) (a ++ b) o.p o.q o.r k none o.in_p o.in_q o.in_r e
 
         parts : IsAbove (map within a) w × IsAbove (map beyond b) w
@@ -211,9 +211,9 @@ none_between a b h g spans is none = from (tilted (sides a b) g spans (lifted h)
             (All-weaker (λ x. pos 0 ≤ℤ dot4 (beyond x) w) (λ x. pos 0 ≤ℤ side_of k x) (λ x m. side_nonneg (divisor_of (normal_of o.p o.q o.r)) (side_of k x) _ apart (is_side x) (omega (arith, ints, m, high x, scaled x (pos 1) f, one-mul (dot_of (normal_of o.p o.q o.r) (difference_of x o.p))))) b in_b))
             ∙ fails.0)
         by_sign (inr f) =
-            true≢false (sym (between_by_sides a b (turned k)
-            (All-weaker (λ x. pos 0 ≤ℤ dot4 (within x) w) (λ x. side_of (turned k) x ≤ℤ pos 0) (λ x m. omega (arith, ints, side_of-turned k x, side_nonneg (divisor_of (normal_of o.p o.q o.r)) (side_of k x) _ apart (is_side x) (omega (arith, ints, m, low x, scaled x (negsuc 0) f, opposite-mul (dot_of (normal_of o.p o.q o.r) (difference_of x o.p)))))) a in_a)
-            (All-weaker (λ x. pos 0 ≤ℤ dot4 (beyond x) w) (λ x. pos 0 ≤ℤ side_of (turned k) x) (λ x m. omega (arith, ints, side_of-turned k x, side_nonpos (divisor_of (normal_of o.p o.q o.r)) (side_of k x) _ apart (is_side x) (omega (arith, ints, m, high x, scaled x (negsuc 0) f, opposite-mul (dot_of (normal_of o.p o.q o.r) (difference_of x o.p)))))) b in_b))
+            true≢false (sym (between_by_sides a b (flipped k)
+            (All-weaker (λ x. pos 0 ≤ℤ dot4 (within x) w) (λ x. side_of (flipped k) x ≤ℤ pos 0) (λ x m. omega (arith, ints, side_of-flipped k x, side_nonneg (divisor_of (normal_of o.p o.q o.r)) (side_of k x) _ apart (is_side x) (omega (arith, ints, m, low x, scaled x (negsuc 0) f, opposite-mul (dot_of (normal_of o.p o.q o.r) (difference_of x o.p)))))) a in_a)
+            (All-weaker (λ x. pos 0 ≤ℤ dot4 (beyond x) w) (λ x. pos 0 ≤ℤ side_of (flipped k) x) (λ x m. omega (arith, ints, side_of-flipped k x, side_nonpos (divisor_of (normal_of o.p o.q o.r)) (side_of k x) _ apart (is_side x) (omega (arith, ints, m, high x, scaled x (negsuc 0) f, opposite-mul (dot_of (normal_of o.p o.q o.r) (difference_of x o.p)))))) b in_b))
             ∙ fails.1)
 
     from : (w : Vec4) × IsBeyond (sides a b) g w × IsFromThree (sides a b) w → ⊥

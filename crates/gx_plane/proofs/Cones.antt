@@ -4,8 +4,7 @@ use Rattle.std.proofs.Common.{◌≡◌, ◌⊎◌, inl, inr, ℕ, zero, suc, �
 use Rattle.std.proofs.lemmas.List.Elements.{All-nil, All-cons, All-head, All-tail, All-weaker}
 use Rattle.std.proofs.lemmas.List.{length-map}
 use Rattle.std.proofs.lemmas.Int.{by_lt_z}
-use Rattle.gx_num.specs.Space.{Vec4}
-use Rattle.gx_algebra.specs.Vectors.{origin, dot4, plus4, times4, opposite4}
+use Rattle.gx_num.specs.Vector4.{Vec4, origin, dot4, plus4, times4, opposite4}
 use Rattle.gx_algebra.proofs.Terms as term
 use Rattle.gx_algebra.proofs.Ring.{Term, num}
 use Rattle.gx_algebra.proofs.Terms.{Term4, ◌≣◌, ◌≣⁴◌, ◌⊕◌, ◌⊖◌, ◌⊗◌, none}

@@ -3,28 +3,28 @@ use Rattle.std.proofs.Common.{◌≡◌, ℕ, zero, suc, ◌≤◌, ◌<◌, Boo
 use Rattle.gx_num.specs.declared.vector.V3.{V3}
 use Rattle.gx_num.specs.Vector.{IsWithin, IsOpposite, dot_of}
 use Rattle.gx_num.specs.Space.{HalfSpace}
-use Rattle.gx_plane.specs.Plane.{reach, normal_reach, level_reach, divisor_of, primitive, IsPlane, is_zero, turned, normal_of, plane_at, plane_through, unit_along}
+use Rattle.gx_plane.specs.Plane.{reach, normal_reach, offset_reach, divisor_of, primitive, IsPlane, is_zero, flipped, normal_of, plane_at, plane_through, unit_along}
 use Rattle.gx_plane.proofs.Divisors.{divisor_of-same, IsPrimitive-primitive, IsWithin-primitive, is_zero-divisor_of, not_zero-divisor_of}
 use borrow.Author.Differences.{ints}
 
 unsigned_abs-opposite : (a : ℤ) → unsigned_abs (pos 0 -ℤ a) ≡ unsigned_abs a
 unsigned_abs-opposite a = omega (arith, ints)
 
-pub IsPlane-turned : (h : HalfSpace) → IsPlane h → IsPlane (turned h)
-IsPlane-turned h p = record {
-  primitive = record { divisor = divisor_of-same (turned h).n h.n (unsigned_abs-opposite h.n.x) (unsigned_abs-opposite h.n.y) (unsigned_abs-opposite h.n.z) ∙ p.primitive.divisor };
+pub IsPlane-flipped : (h : HalfSpace) → IsPlane h → IsPlane (flipped h)
+IsPlane-flipped h p = record {
+  primitive = record { divisor = divisor_of-same (flipped h).n h.n (unsigned_abs-opposite h.n.x) (unsigned_abs-opposite h.n.y) (unsigned_abs-opposite h.n.z) ∙ p.primitive.divisor };
   within = record {
     x = omega (arith, unsigned_abs-opposite h.n.x, p.within.x);
     y = omega (arith, unsigned_abs-opposite h.n.y, p.within.y);
     z = omega (arith, unsigned_abs-opposite h.n.z, p.within.z);
   };
-  level_within = omega (arith, unsigned_abs-opposite h.e, p.level_within);
+  offset_within = omega (arith, unsigned_abs-opposite h.e, p.offset_within);
 }
 
 pub IsPlane-opposite : (h : HalfSpace) (n : V3) (e : ℤ) → IsOpposite h.n n → e ≡ pos 0 -ℤ h.e → IsPlane h → IsPlane (record { n = n; e = e })
 IsPlane-opposite h n e o q p =
-    let same : turned h ≡ record { n = n; e = e } = λ i. record { n = record { x = sym o.x i; y = sym o.y i; z = sym o.z i }; e = sym q i } in
-    subst IsPlane same (IsPlane-turned h p)
+    let same : flipped h ≡ record { n = n; e = e } = λ i. record { n = record { x = sym o.x i; y = sym o.y i; z = sym o.z i }; e = sym q i } in
+    subst IsPlane same (IsPlane-flipped h p)
 
 unit_along-divisor : (axis : ℕ) → axis < 3 → divisor_of (unit_along axis) ≡ 1
 unfolding divisor_of
@@ -45,12 +45,12 @@ IsPlane-along axis n e lt is h =
     rw is (record {
       primitive = record { divisor = unit_along-divisor axis lt };
       within = record { x = omega (arith, w.x); y = omega (arith, w.y); z = omega (arith, w.z) };
-      level_within = omega (arith, h);
+      offset_within = omega (arith, h);
     })
 
-pub IsPlane-through : (v n : V3) (e : ℤ) → 0 < divisor_of v → IsWithin normal_reach v → n ≡ primitive v → unsigned_abs e ≤ level_reach → IsPlane (record { n = n; e = e })
+pub IsPlane-through : (v n : V3) (e : ℤ) → 0 < divisor_of v → IsWithin normal_reach v → n ≡ primitive v → unsigned_abs e ≤ offset_reach → IsPlane (record { n = n; e = e })
 IsPlane-through v n e lt w is h =
-    rw is (record { primitive = IsPrimitive-primitive v lt; within = IsWithin-primitive v normal_reach w; level_within = h })
+    rw is (record { primitive = IsPrimitive-primitive v lt; within = IsWithin-primitive v normal_reach w; offset_within = h })
 
 -- ---- the plane of three points, from what the code computes
 pub none-plane_through : (a b c v : V3) → v ≡ normal_of a b c → divisor_of v ≡ 0 → None ≡ plane_through a b c

@@ -6,15 +6,14 @@ use Rattle.std.proofs.lemmas.Nat.Gcd.{IsGcd-from_zero, IsGcd-from_mod, mod-eq-ze
 use Rattle.std.proofs.lemmas.Int.{unsigned_abs-mul}
 use Rattle.std.proofs.Math.Nat.{div-add-mod, dvd-mul_right, dvd_of_mul-dvd-mul_left, eq-one_of_dvd-one}
 use Rattle.gx_num.specs.declared.vector.V3.{V3}
-use Rattle.gx_num.specs.Vector.{dot_of}
+use Rattle.gx_num.specs.Vector.{dot_of, times3, difference_of}
 use Rattle.gx_num.specs.Space.{HalfSpace}
-use Rattle.gx_algebra.specs.Vectors.{times3, difference_of}
 use Rattle.gx_algebra.proofs.Terms as term
 use Rattle.gx_algebra.proofs.Terms.{◌≣◌, ◌⊕◌, ◌⊖◌, ◌⊗◌, none}
 use Rattle.gx_algebra.proofs.Identity.{identity, number, vector3}
 use Rattle.gx_algebra.proofs.Identities.{same3}
 use Rattle.gx_algebra.proofs.Order.{mul_left_cancel}
-use Rattle.gx_plane.specs.Plane.{divisor_of, primitive, IsPrimitive, is_zero, side_of, turned, normal_of, plane_at, plane_through}
+use Rattle.gx_plane.specs.Plane.{divisor_of, primitive, IsPrimitive, is_zero, side_of, flipped, normal_of, plane_at, plane_through}
 use Rattle.gx_plane.proofs.Divisors.{Divides, divisor_of-divides, divisor_of-gcd, is_zero-divisor_of, zero-is_zero}
 use borrow.Author.Differences.{ints, neg_is}
 
@@ -44,8 +43,8 @@ side_of-plane_at v a p lt = shifted (pos (divisor_of v)) (primitive v) a p ∙ a
     shifted : (k : ℤ) (n a p : V3) → k *ℤ (dot_of n p -ℤ dot_of n a) ≡ dot_of (times3 k n) (difference_of p a)
     shifted = identity (number ∷ vector3 ∷ vector3 ∷ vector3 ∷ []) (λ k n a p. k ⊗ (term.dot_of n p ⊖ term.dot_of n a) ≣ term.dot_of (term.times3 k n) (term.difference_of p a)) tt
 
-pub side_of-turned : (h : HalfSpace) (p : V3) → side_of (turned h) p ≡ pos 0 -ℤ side_of h p
-side_of-turned h p = out h.n p h.e
+pub side_of-flipped : (h : HalfSpace) (p : V3) → side_of (flipped h) p ≡ pos 0 -ℤ side_of h p
+side_of-flipped h p = out h.n p h.e
   where
     out : (n p : V3) (e : ℤ) → dot_of (record { x = pos 0 -ℤ n.x; y = pos 0 -ℤ n.y; z = pos 0 -ℤ n.z }) p -ℤ (pos 0 -ℤ e) ≡ pos 0 -ℤ (dot_of n p -ℤ e)
     out = identity (vector3 ∷ vector3 ∷ number ∷ []) (λ n p e. term.dot_of (record { x = none ⊖ n.x; y = none ⊖ n.y; z = none ⊖ n.z }) p ⊖ (none ⊖ e) ≣ none ⊖ (term.dot_of n p ⊖ e)) tt

@@ -12,11 +12,11 @@ use Rattle.gx_num.specs.Space.{HalfSpace}
 use Rattle.gx_algebra.proofs.Terms as term
 use Rattle.gx_algebra.proofs.Terms.{◌≣◌, ◌⊖◌, none}
 use Rattle.gx_algebra.proofs.Identity.{identity, vector3}
-use Rattle.gx_plane.specs.Plane.{side_of, Supports, turned, plane_through}
+use Rattle.gx_plane.specs.Plane.{side_of, Supports, flipped, plane_through}
 use Rattle.gx_plane.specs.Between.{pairs_of, triples_of, both_ways, candidates, planes_with, planes_with_two}
 use borrow.Author.Differences.{ints}
 
--- ---- a plane is between two lists where it supports one, and turned the other
+-- ---- a plane is between two lists where it supports one, and flipped the other
 same_bool : (r s : Bool) → (IsTrue r → IsTrue s) → (IsTrue s → IsTrue r) → r ≡ s
 same_bool true s to from = sym (to refl)
 same_bool false true to from = from refl
@@ -35,13 +35,13 @@ pub supports_is : (h : HalfSpace) (points : List V3) (r : Bool) → (IsTrue r �
 supports_is h points r is =
     by_points (λ p. side_of h p ≤ℤ pos 0) (λ p. int_le (dot_of h.n p) h.e) points r (λ p. at_most (dot_of h.n p) h.e (side_of h p) refl) is
 
-pub dot_of-turned : (n p : V3) → dot_of (record { x = pos 0 -ℤ n.x; y = pos 0 -ℤ n.y; z = pos 0 -ℤ n.z }) p ≡ pos 0 -ℤ dot_of n p
-dot_of-turned = identity (vector3 ∷ vector3 ∷ []) (λ n p. term.dot_of (record { x = none ⊖ n.x; y = none ⊖ n.y; z = none ⊖ n.z }) p ≣ none ⊖ term.dot_of n p) tt
+pub dot_of-flipped : (n p : V3) → dot_of (record { x = pos 0 -ℤ n.x; y = pos 0 -ℤ n.y; z = pos 0 -ℤ n.z }) p ≡ pos 0 -ℤ dot_of n p
+dot_of-flipped = identity (vector3 ∷ vector3 ∷ []) (λ n p. term.dot_of (record { x = none ⊖ n.x; y = none ⊖ n.y; z = none ⊖ n.z }) p ≣ none ⊖ term.dot_of n p) tt
 
-pub turned_supports_is : (h : HalfSpace) (points : List V3) (r : Bool) → (IsTrue r ↔ Supports (turned h) points) → r ≡ list_all (λ p. int_le h.e (dot_of h.n p)) points
-turned_supports_is h points r is =
-    by_points (λ p. side_of (turned h) p ≤ℤ pos 0) (λ p. int_le h.e (dot_of h.n p)) points r
-    (λ p. at_most h.e (dot_of h.n p) (side_of (turned h) p) (omega (arith, ints, dot_of-turned h.n p))) is
+pub flipped_supports_is : (h : HalfSpace) (points : List V3) (r : Bool) → (IsTrue r ↔ Supports (flipped h) points) → r ≡ list_all (λ p. int_le h.e (dot_of h.n p)) points
+flipped_supports_is h points r is =
+    by_points (λ p. side_of (flipped h) p ≤ℤ pos 0) (λ p. int_le h.e (dot_of h.n p)) points r
+    (λ p. at_most h.e (dot_of h.n p) (side_of (flipped h) p) (omega (arith, ints, dot_of-flipped h.n p))) is
 
 pub and_then : (r s a b : Bool) → r ≡ a → s ≡ b → r ≡ true → s ≡ (a && b)
 and_then r s true b e k t = k

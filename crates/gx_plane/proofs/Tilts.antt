@@ -3,8 +3,7 @@
 use Rattle.std.proofs.Common.{get_or, ◌≡◌, ◌≢◌, ◌⊎◌, inl, inr, suc, ℤ, pos, ◌+ℤ◌, ◌-ℤ◌, ◌*ℤ◌, ◌≤ℤ◌, ◌<ℤ◌, List, [], ◌∷◌, All, Contains, refl, ap, ◌∙◌, arith}
 use Rattle.std.proofs.lemmas.List.Elements.{All-nil, All-cons, All-head, All-tail, All-weaker, All-contains}
 use Rattle.std.proofs.lemmas.Int.{by_lt_z}
-use Rattle.gx_num.specs.Space.{Vec4}
-use Rattle.gx_algebra.specs.Vectors.{origin, dot4, plus4, times4, opposite4, minors, det4}
+use Rattle.gx_num.specs.Vector4.{Vec4, origin, dot4, plus4, times4, opposite4, minors, det4}
 use Rattle.gx_algebra.proofs.Terms as term
 use Rattle.gx_algebra.proofs.Ring.{num}
 use Rattle.gx_algebra.proofs.Terms.{Term4, ◌≣◌, ◌⊕◌, ◌⊖◌, ◌⊗◌, none}

@@ -1,15 +1,12 @@
 -- Planes between two lists of points, among those through three of the points.
-use Rattle.std.specs.Prelude.{List, [], ◌∷◌, ◌++◌, map, flat_map, Bool, ◌&&◌, Option, Some, None, int_le}
-use Rattle.std.specs.List.{list_all}
+use Rattle.std.specs.Prelude.{List, [], ◌∷◌, ◌++◌, map, flat_map, Bool, ◌&&◌, Option, Some, None}
 use Rattle.gx_num.specs.declared.vector.V3.{V3}
-use Rattle.gx_num.specs.Vector.{dot_of}
 use Rattle.gx_num.specs.Space.{HalfSpace}
-use Rattle.gx_plane.specs.Plane.{plane_through, turned}
+use Rattle.gx_plane.specs.Plane.{plane_through, supports, flipped}
 
 -- all of a at n . p <= e, and all of b at n . p >= e
 abbrev pub is_between : List V3 → List V3 → HalfSpace → Bool
-is_between a b h =
-    list_all (λ p. int_le (dot_of h.n p) h.e) a && list_all (λ p. int_le h.e (dot_of h.n p)) b
+is_between a b h = supports h a && supports (flipped h) b
 
 -- the pairs at places i < j of a list, in lexicographic order
 abbrev pub pairs_of : List V3 → List (V3 × V3)
@@ -21,19 +18,11 @@ abbrev pub triples_of : List V3 → List (V3 × V3 × V3)
 triples_of [] = []
 triples_of (p ∷ ps) = map (λ t. (p, t.0, t.1)) (pairs_of ps) ++ triples_of ps
 
--- the plane and then the same plane turned; no plane where the points are collinear
+-- the plane and then the same plane flipped; no plane where the points are collinear
 abbrev pub both_ways : Option HalfSpace → List HalfSpace
 both_ways None = []
-both_ways (Some h) = h ∷ turned h ∷ []
+both_ways (Some h) = h ∷ flipped h ∷ []
 
 -- the planes through three points of a list, each both ways, in the order of the triples
 abbrev pub candidates : List V3 → List HalfSpace
 candidates points = flat_map (λ t. both_ways (plane_through t.0 t.1 t.2)) (triples_of points)
-
--- those of the candidates that are through p and two of the points
-abbrev pub planes_with : V3 → List V3 → List HalfSpace
-planes_with p points = flat_map (λ t. both_ways (plane_through p t.0 t.1)) (pairs_of points)
-
--- those of the candidates that are through p, q and one of the points
-abbrev pub planes_with_two : V3 → V3 → List V3 → List HalfSpace
-planes_with_two p q points = flat_map (λ r. both_ways (plane_through p q r)) points

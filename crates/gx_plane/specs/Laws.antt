@@ -1,7 +1,6 @@
 -- Two theorems on lists of vectors of four whole numbers (any text on linear inequalities).
 use Rattle.std.specs.Prelude.{◌≡◌, ◌⊎◌, ◌<◌, ℕ, pos, ◌≤ℤ◌, ◌<ℤ◌, List, [], ◌∷◌, length, All, Contains}
-use Rattle.gx_num.specs.Space.{Vec4}
-use Rattle.gx_algebra.specs.Vectors.{origin, dot4, plus4, times4, opposite4, minors}
+use Rattle.gx_num.specs.Vector4.{Vec4, origin, dot4, plus4, times4, opposite4, minors}
 
 -- the vector's product with each member is at least 0
 abbrev pub IsAbove : List Vec4 → Vec4 → Type 0

@@ -1,11 +1,11 @@
 -- Planes of whole numbers with primitive normals: the points where n . p = e.
-use Rattle.std.specs.Prelude.{◌≡◌, ℕ, ◌*◌, ◌%◌, ◌≤◌, max, ℤ, pos, ◌-ℤ◌, ◌≤ℤ◌, int_div, unsigned_abs, Bool, ◌&&◌, ◌==◌, if◌then◌else◌, Option, Some, None, List, All}
+use Rattle.std.specs.Prelude.{◌≡◌, ℕ, ◌*◌, ◌≤◌, ℤ, pos, ◌-ℤ◌, int_le, int_div, unsigned_abs, Bool, ◌&&◌, ◌==◌, if◌then◌else◌, Option, Some, None, List, [], ◌∷◌}
+use Rattle.std.specs.List.{list_all}
 use Rattle.gx_num.specs.declared.vector.V3.{V3}
 use Rattle.gx_num.specs.declared.vector.TheConstants.{M}
-use Rattle.gx_num.specs.Vector.{IsWithin, dot_of}
-use Rattle.gx_num.specs.Number.{greatest_up_to}
+use Rattle.gx_num.specs.Number.{common_divisor}
+use Rattle.gx_num.specs.Vector.{IsWithin, dot_of, cross_of, difference_of, opposite_of}
 use Rattle.gx_num.specs.Space.{HalfSpace}
-use Rattle.gx_algebra.specs.Vectors.{difference_of, cross_of}
 
 -- the greatest magnitude of a coordinate here: corners of a solid that is placed
 abbrev pub reach : ℕ
@@ -15,15 +15,12 @@ reach = 2 * unsigned_abs M
 abbrev pub normal_reach : ℕ
 normal_reach = 8 * (reach * reach)
 
-abbrev pub level_reach : ℕ
-level_reach = 24 * (reach * reach * reach)
-
-abbrev pub divides_all : V3 → ℕ → Bool
-divides_all v d = unsigned_abs v.x % d == 0 && (unsigned_abs v.y % d == 0 && unsigned_abs v.z % d == 0)
+abbrev pub offset_reach : ℕ
+offset_reach = 24 * (reach * reach * reach)
 
 -- the greatest common divisor of the components; of the zero vector it is 0
-unfoldable pub divisor_of : V3 → ℕ
-divisor_of v = greatest_up_to (max (unsigned_abs v.x) (max (unsigned_abs v.y) (unsigned_abs v.z))) (divides_all v)
+abbrev pub divisor_of : V3 → ℕ
+divisor_of v = common_divisor (unsigned_abs v.x ∷ unsigned_abs v.y ∷ unsigned_abs v.z ∷ [])
 
 -- the components divided by their common divisor
 abbrev pub primitive : V3 → V3
@@ -42,15 +39,12 @@ abbrev pub side_of : HalfSpace → V3 → ℤ
 side_of h p = dot_of h.n p -ℤ h.e
 
 -- no point is beyond the plane
-abbrev pub Supports : HalfSpace → List V3 → Type 0
-Supports h points = All (λ p. side_of h p ≤ℤ pos 0) points
+abbrev pub supports : HalfSpace → List V3 → Bool
+supports h points = list_all (λ p. int_le (side_of h p) (pos 0)) points
 
 -- the same plane with the opposite normal
-abbrev pub turned : HalfSpace → HalfSpace
-turned h = record {
-  n = record { x = pos 0 -ℤ h.n.x; y = pos 0 -ℤ h.n.y; z = pos 0 -ℤ h.n.z };
-  e = pos 0 -ℤ h.e;
-}
+abbrev pub flipped : HalfSpace → HalfSpace
+flipped h = record { n = opposite_of h.n; e = pos 0 -ℤ h.e }
 
 -- orthogonal to the plane of three points; zero exactly where they are collinear
 abbrev pub normal_of : V3 → V3 → V3 → V3
@@ -77,10 +71,10 @@ unit_along axis = record { x = on_axis axis 0; y = on_axis axis 1; z = on_axis a
 -- the plane through a coordinate of an axis, with the normal along the axis or against it
 abbrev pub plane_along : ℕ → Bool → ℤ → HalfSpace
 plane_along axis positive at =
-    let along : HalfSpace = record { n = unit_along axis; e = at } in if positive then along else turned along
+    let along : HalfSpace = record { n = unit_along axis; e = at } in if positive then along else flipped along
 
 -- what each plane here keeps
 pub record IsPlane (h : HalfSpace) : Type 0 where
   pub primitive : IsPrimitive h.n
   pub within : IsWithin normal_reach h.n
-  pub level_within : unsigned_abs h.e ≤ level_reach
+  pub offset_within : unsigned_abs h.e ≤ offset_reach

@@ -7,7 +7,7 @@ use crate::Plane;
 use gx_num::V3;
 
 /// The first plane through three of the points that has all of `a` on one side and all of `b` on the other: the triples in
-/// lexicographic order, in `a` and then `b`, and for each the plane with its normal along `(q - p) x (r - p)`, then turned.
+/// lexicographic order, in `a` and then `b`, and for each the plane with its normal along `(q - p) x (r - p)`, then flipped.
 pub fn first_triple_between(a: &[V3], b: &[V3]) -> Option<Plane>
     requires few { length a.now ≤ 32 }
     requires few_others { length b.now ≤ 32 }
@@ -65,7 +65,7 @@ fn first_with_two(a: &[V3], b: &[V3], p: V3, q: V3, from: usize) -> Option<Plane
     None
 }
 
-// The plane through three points if it is between, else the same plane turned if that is.
+// The plane through three points if it is between, else the same plane flipped if that is.
 fn first_of_three(a: &[V3], b: &[V3], p: V3, q: V3, r: V3) -> Option<Plane>
     requires within { All (IsWithin reach) a.now }
     requires others_within { All (IsWithin reach) b.now }

@@ -1,7 +1,6 @@
 ghost use Rattle.std.specs.Prelude.{◌≡◌, ◌↔◌, ◌<◌, ◌≤◌, ◌*◌, ◌<ℤ◌, ◌-ℤ◌, pos, IsTrue, unsigned_abs, int_div, All};
-ghost use Rattle.gx_num.specs.Vector.{IsWithin, dot_of};
-ghost use Rattle.gx_algebra.specs.Vectors.{difference_of};
-ghost use Rattle.gx_plane.specs.Plane.{reach, normal_reach, level_reach, divisor_of, primitive, IsPrimitive, side_of, Supports, turned, normal_of, plane_through, unit_along, plane_along};
+ghost use Rattle.gx_num.specs.Vector.{IsWithin, dot_of, difference_of};
+ghost use Rattle.gx_plane.specs.Plane.{reach, normal_reach, offset_reach, divisor_of, primitive, IsPrimitive, side_of, Supports, flipped, normal_of, plane_through, unit_along, plane_along};
 
 use gx_num::{V3, gcd};
 use std::marker::Model;
@@ -37,7 +36,7 @@ impl Plane {
 
     pub fn e(&self) -> i128
         ensures value { result ≡ self.now.e }
-        ensures within { unsigned_abs result ≤ level_reach }
+        ensures within { unsigned_abs result ≤ offset_reach }
     {
         self.e
     }
@@ -63,7 +62,7 @@ impl Plane {
 
     /// The same plane with the opposite normal.
     pub fn flip(self) -> Plane
-        ensures { result ≡ turned self }
+        ensures { result ≡ flipped self }
     {
         Plane {
             n: self.n.neg(),
@@ -88,7 +87,7 @@ impl Plane {
     pub fn side(&self, p: V3) -> i128
         requires { IsWithin reach p }
         ensures value { result ≡ side_of self.now p }
-        ensures within { unsigned_abs result ≤ 2 * level_reach }
+        ensures within { unsigned_abs result ≤ 2 * offset_reach }
     {
         beyond(product(self.n, p), self.e)
     }
@@ -137,16 +136,16 @@ fn product(n: V3, p: V3) -> i128
     requires normal { IsWithin normal_reach n }
     requires point { IsWithin reach p }
     ensures value { result ≡ dot_of n p }
-    ensures within { unsigned_abs result ≤ level_reach }
+    ensures within { unsigned_abs result ≤ offset_reach }
 {
     n.dot(p)
 }
 
 fn beyond(product: i128, e: i128) -> i128
-    requires product { unsigned_abs product ≤ level_reach }
-    requires level { unsigned_abs e ≤ level_reach }
+    requires product { unsigned_abs product ≤ offset_reach }
+    requires level { unsigned_abs e ≤ offset_reach }
     ensures value { result ≡ product -ℤ e }
-    ensures within { unsigned_abs result ≤ 2 * level_reach }
+    ensures within { unsigned_abs result ≤ 2 * offset_reach }
 {
     product - e
 }

@@ -1,6 +1,6 @@
 -- The texts that the program writes. Each is this project's own.
 use Rattle.std.specs.Prelude.{ℕ, List, [], ◌++◌, ◌==◌, if◌then◌else◌, codes, decimal}
-use Rattle.gx_num.specs.Space.{Parameter}
+use Rattle.gx_num.specs.Ray.{RayParameter}
 use Rattle.gx_path.specs.Report.{Row}
 use Rattle.gx_tree.specs.World.{World}
 use Rattle.gx_table.specs.Faults.{text_of}
@@ -21,7 +21,7 @@ abbrev pub digits_of : ℕ → List ℕ
 digits_of den = if den == 1 then [] else decimal den
 
 -- a fraction: `p`, or `p/q`
-abbrev pub fraction_text : Parameter → List ℕ
+abbrev pub fraction_text : RayParameter → List ℕ
 fraction_text t = decimal t.num ++ slash_of t.den ++ digits_of t.den
 
 -- `FROM TO WORLDNAME`

@@ -4,7 +4,7 @@ use Rattle.std.proofs.lemmas.List.Elements.{All-take, All-map, All-drop}
 use Rattle.gx_num.specs.declared.vector.V3.{V3}
 use Rattle.gx_num.specs.declared.vector.TheConstants.{M}
 use Rattle.gx_num.specs.Vector.{IsWithin}
-use Rattle.gx_num.specs.Space.{HasDirection}
+use Rattle.gx_num.specs.Ray.{HasDirection}
 use Rattle.gx_reader.specs.declared.judge.Given.{Given}
 use Rattle.gx_reader.specs.declared.judge.Given.TheVariants.{Nothing}
 use Rattle.gx_reader.specs.Form.{vector_at, is_zero}

@@ -1,5 +1,5 @@
 ghost use Rattle.std.specs.Prelude.{◌≡◌, ◌≤◌, ◌<◌, ◌++◌, ◌∷◌, [], length, IfOk, OnErr, slice_get, Some, All};
-ghost use Rattle.gx_reader.specs.Rays.{IsKept};
+ghost use Rattle.gx_reader.specs.Rays.{IsTraceable};
 
 use gx_num::Ray;
 use gx_tree::Hierarchy;
@@ -18,13 +18,13 @@ pub struct Rays {
 impl Model for Rays {
     ghost use Rattle.std.specs.Prelude.{List, ◌≤◌, length, All};
     ghost use Rattle.gx_num.specs.declared.ray.Ray.{Ray as Line};
-    ghost use Rattle.gx_reader.specs.Rays.{IsKept};
+    ghost use Rattle.gx_reader.specs.Rays.{IsTraceable};
 
     ghost Value = { List Line };
 
     ghost view = { λ r. r.rays.items };
 
-    ghost invariant = { λ r. (length r.rays.items ≤ 65536) × All IsKept r.rays.items };
+    ghost invariant = { λ r. (length r.rays.items ≤ 65536) × All IsTraceable r.rays.items };
 }
 
 impl Rays {
@@ -39,7 +39,7 @@ impl Rays {
     pub fn count(&self) -> u32
         ensures count { result ≡ length self.now }
         ensures most { result ≤ 65536 }
-        ensures kept { All IsKept self.now }
+        ensures kept { All IsTraceable self.now }
     {
         self.rays.len() as u32
     }
@@ -48,14 +48,14 @@ impl Rays {
     pub fn ray(&self, i: u32) -> Ray
         requires { i < length self.now }
         ensures ray { slice_get self.now i ≡ Some result }
-        ensures kept { IsKept result }
+        ensures kept { IsTraceable result }
     {
         self.rays[i as usize]
     }
 
     pub fn push(&mut self, ray: Ray) -> Result<(), AllocFailed<Ray>>
         requires room { length self.old < 65536 }
-        requires kept { IsKept ray }
+        requires kept { IsTraceable ray }
         ensures ok { IfOk result (λ _. self.new ≡ self.old ++ ray ∷ []) }
         ensures err { OnErr result (self.new ≡ self.old) }
     {

@@ -6,7 +6,7 @@ use Rattle.gx_algebra.proofs.Order.{by_sign}
 use Rattle.gx_table.specs.declared.fault.FaultName.TheVariants.{Flat}
 use Rattle.gx_shapes.specs.declared.kind.SolidKind.{SolidKind}
 use Rattle.gx_shapes.specs.declared.kind.SolidKind.TheVariants.{Cuboid, Trd, Tet}
-use Rattle.gx_shapes.specs.Points.{is_flat}
+use Rattle.gx_shapes.specs.Points.{are_coplanar}
 use Rattle.gx_shapes.specs.Shape.{value, value_count, vertices_of, half_where, ValueFault, fault_or, first_fault, whole_fault, IsAccepted}
 use Rattle.gx_shapes.proofs.Trapezoids.{IsWidth, IsFrustum}
 use borrow.Author.Differences.{ints}
@@ -84,15 +84,15 @@ trapezoid_accepted vs is =
     trapezoid_values (value vs 0) (value vs 1) (value vs 2) (value vs 3) (value vs 4) (listed Trd vs is)
 
 -- ---- TET
-pub tetrahedron_accepted : (vs : List ℤ) → IsAccepted Tet vs → is_flat (vertices_of Tet vs) ≡ false
-tetrahedron_accepted vs is = go (is_flat (vertices_of Tet vs)) is.whole
+pub tetrahedron_accepted : (vs : List ℤ) → IsAccepted Tet vs → are_coplanar (vertices_of Tet vs) ≡ false
+tetrahedron_accepted vs is = go (are_coplanar (vertices_of Tet vs)) is.whole
   where
     go : (flat : Bool) → (if flat then Some Flat else None) ≡ None → flat ≡ false
     go true e = cc
     go false e = refl
 
-pub flat_fault : (vs : List ℤ) → whole_fault Tet vs ≡ Some Flat ↔ is_flat (vertices_of Tet vs) ≡ true
-flat_fault vs = go (is_flat (vertices_of Tet vs))
+pub flat_fault : (vs : List ℤ) → whole_fault Tet vs ≡ Some Flat ↔ are_coplanar (vertices_of Tet vs) ≡ true
+flat_fault vs = go (are_coplanar (vertices_of Tet vs))
   where
     go : (flat : Bool) → (if flat then Some Flat else None) ≡ Some Flat ↔ flat ≡ true
     go true = (λ e. refl, λ e. refl)

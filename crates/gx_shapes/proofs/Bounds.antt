@@ -4,7 +4,8 @@ use Rattle.std.proofs.lemmas.List.Elements.{All-weaker}
 use Rattle.std.proofs.lemmas.List.Sums.{AllPass-from_list_all}
 use Rattle.gx_num.specs.declared.vector.V3.{V3}
 use Rattle.gx_num.specs.Vector.{dot_of}
-use Rattle.gx_num.specs.Space.{Vec4, HalfSpace, height, is_in}
+use Rattle.gx_num.specs.Space.{HalfSpace, is_in, normal_dot}
+use Rattle.gx_num.specs.Vector4.{Vec4}
 use Rattle.gx_plane.specs.Plane.{is_zero}
 use Rattle.gx_plane.proofs.Divisors.{zero-is_zero}
 use Rattle.gx_shapes.specs.Hull.{IsAtMost}
@@ -13,8 +14,8 @@ use borrow.Author.Differences.{ints}
 
 pub All-is_in : (solid : List HalfSpace) (p : Vec4) → IsTrue (is_in solid p) → All (λ h. IsAtMost h p) solid
 All-is_in solid p e =
-    All-weaker (λ h. int_le (height h p) (h.e *ℤ p.w) ≡ true) (λ h. IsAtMost h p) (λ h e. omega (arith, ints, e)) solid
-    (AllPass-from_list_all (λ h. int_le (height h p) (h.e *ℤ p.w)) solid e)
+    All-weaker (λ h. int_le (normal_dot h p) (h.e *ℤ p.w) ≡ true) (λ h. IsAtMost h p) (λ h e. omega (arith, ints, e)) solid
+    (AllPass-from_list_all (λ h. int_le (normal_dot h p) (h.e *ℤ p.w)) solid e)
 
 -- a vector whose product with another isn't 0
 pub not_is_zero : (n d : V3) → dot_of n d ≢ pos 0 → is_zero n ≡ false

@@ -5,8 +5,7 @@ use Rattle.std.specs.List.{list_all}
 use Rattle.std.proofs.lemmas.Bool.Decides.{Decides-int_eq, Decides-like, Decides-by_and, same_from_decides}
 use Rattle.std.proofs.lemmas.List.Elements.{All-nil, All-cons, All-head, All-tail, All-append, All-map, All-weaker}
 use Rattle.gx_num.specs.declared.vector.V3.{V3}
-use Rattle.gx_num.specs.Vector.{dot_of}
-use Rattle.gx_algebra.specs.Vectors.{difference_of}
+use Rattle.gx_num.specs.Vector.{dot_of, difference_of}
 use Rattle.gx_algebra.proofs.Ring.{Term}
 use Rattle.gx_algebra.proofs.Terms as term
 use Rattle.gx_algebra.proofs.Terms.{Term3, ◌≣◌, ◌⊖◌, none}
@@ -14,7 +13,7 @@ use Rattle.gx_algebra.proofs.Identity.{identity, vector3}
 use Rattle.gx_plane.proofs.Candidates.{normal_term}
 use Rattle.gx_plane.specs.Plane.{normal_of}
 use Rattle.gx_plane.specs.Between.{pairs_of, triples_of}
-use Rattle.gx_shapes.specs.Points.{is_level, is_flat, distinct}
+use Rattle.gx_shapes.specs.Points.{is_coplanar, are_coplanar, distinct}
 use Rattle.gx_algebra.proofs.Lists.{All-append_parts, All-from_map}
 use Rattle.gx_shapes.proofs.Distinct.{All-distinct, All-from_distinct}
 use borrow.Author.Differences.{ints}
@@ -107,17 +106,17 @@ AreLevel ps a b c = All (λ p. volume a b c p ≡ pos 0) ps
 abbrev pub IsCoplanar : List V3 → Type 0
 IsCoplanar ps = AllThree (AreLevel ps) ps
 
-pub Decides-triples : (ps : List V3) → Decides (is_flat ps) (All (λ t. AreLevel ps t.0 t.1 t.2) (triples_of ps))
+pub Decides-triples : (ps : List V3) → Decides (are_coplanar ps) (All (λ t. AreLevel ps t.0 t.1 t.2) (triples_of ps))
 Decides-triples ps =
-    Decides-by_and (λ t. list_all (is_level t.0 t.1 t.2) ps) (λ t. AreLevel ps t.0 t.1 t.2) (list_all (λ t. list_all (is_level t.0 t.1 t.2) ps)) (λ t. three t.0 t.1 t.2 ps) refl (λ _ _. refl) (triples_of ps)
+    Decides-by_and (λ t. list_all (is_coplanar t.0 t.1 t.2) ps) (λ t. AreLevel ps t.0 t.1 t.2) (list_all (λ t. list_all (is_coplanar t.0 t.1 t.2) ps)) (λ t. three t.0 t.1 t.2 ps) refl (λ _ _. refl) (triples_of ps)
   where
-    three : (a b c : V3) (ps : List V3) → Decides (list_all (is_level a b c) ps) (AreLevel ps a b c)
+    three : (a b c : V3) (ps : List V3) → Decides (list_all (is_coplanar a b c) ps) (AreLevel ps a b c)
     three a b c =
-        Decides-by_and (is_level a b c) (λ p. volume a b c p ≡ pos 0) (list_all (is_level a b c)) (λ p. Decides-int_eq (volume a b c p) (pos 0)) refl (λ _ _. refl)
+        Decides-by_and (is_coplanar a b c) (λ p. volume a b c p ≡ pos 0) (list_all (is_coplanar a b c)) (λ p. Decides-int_eq (volume a b c p) (pos 0)) refl (λ _ _. refl)
 
-pub Decides-is_flat : (ps : List V3) → Decides (is_flat ps) (IsCoplanar ps)
-Decides-is_flat ps =
-    Decides-like (is_flat ps)
+pub Decides-are_coplanar : (ps : List V3) → Decides (are_coplanar ps) (IsCoplanar ps)
+Decides-are_coplanar ps =
+    Decides-like (are_coplanar ps)
     (AllThree-from_triples (AreLevel ps)
     (λ a b c h k d lt. omega (arith, ints, h k d lt, volume_swap_first a b c (get_or ps k d)))
     (λ a b c h k d lt. omega (arith, ints, h k d lt, volume_swap_second a b c (get_or ps k d)))
@@ -132,7 +131,7 @@ IsCoplanar-moved ps qs move h =
     (λ m e mt. move (AreLevel qs (get_or ps k d) (get_or ps m e))
     (λ n f nt. move (λ p. volume (get_or ps k d) (get_or ps m e) (get_or ps n f) p ≡ pos 0) (h k d lt m e mt n f nt))))
 
-pub is_flat-distinct : (ps : List V3) → is_flat (distinct ps) ≡ is_flat ps
-is_flat-distinct ps =
-    same_from_decides (is_flat (distinct ps)) (is_flat ps) (Decides-is_flat (distinct ps))
-    (Decides-like (is_flat ps) (IsCoplanar-moved ps (distinct ps) (λ P. All-distinct P ps)) (IsCoplanar-moved (distinct ps) ps (λ P. All-from_distinct P ps)) (Decides-is_flat ps))
+pub are_coplanar-distinct : (ps : List V3) → are_coplanar (distinct ps) ≡ are_coplanar ps
+are_coplanar-distinct ps =
+    same_from_decides (are_coplanar (distinct ps)) (are_coplanar ps) (Decides-are_coplanar (distinct ps))
+    (Decides-like (are_coplanar ps) (IsCoplanar-moved ps (distinct ps) (λ P. All-distinct P ps)) (IsCoplanar-moved (distinct ps) ps (λ P. All-from_distinct P ps)) (Decides-are_coplanar ps))

@@ -5,12 +5,12 @@ use Rattle.gx_num.specs.Vector.{IsWithin}
 use Rattle.gx_table.specs.declared.fault.FaultName.TheVariants.{Flat}
 use Rattle.gx_shapes.specs.declared.kind.SolidKind.{SolidKind}
 use Rattle.gx_shapes.specs.declared.kind.SolidKind.TheVariants.{Cuboid, Trd, Tet}
-use Rattle.gx_shapes.specs.Points.{distinct, is_flat}
+use Rattle.gx_shapes.specs.Points.{distinct, are_coplanar}
 use Rattle.gx_shapes.specs.Shape.{value, value_count, point, point_at, corners, solid_of, vertices_of, whole_fault, IsAccepted}
 use Rattle.gx_shapes.specs.Hull.{IsHullOf}
 use Rattle.gx_shapes.proofs.Accepted.{box_accepted, trapezoid_accepted, tetrahedron_accepted, flat_fault}
 use Rattle.gx_shapes.proofs.Distinct.{IsHullOf-distinct}
-use Rattle.gx_shapes.proofs.Flatness.{is_flat-distinct}
+use Rattle.gx_shapes.proofs.Flatness.{are_coplanar-distinct}
 use Rattle.gx_shapes.proofs.Tetrahedra.{tetrahedron_hull, tetrahedron_apart}
 use Rattle.gx_shapes.proofs.Trapezoids.{frustum, box_hull, trapezoid_hull, frustum_solid}
 use Rattle.gx_algebra.proofs.Lists.{All-four}
@@ -25,7 +25,7 @@ hull_of_shape Tet vs is =
     tetrahedron_hull (point_at vs 0) (point_at vs 3) (point_at vs 6) (point_at vs 9)
     (tetrahedron_apart (point_at vs 0) (point_at vs 3) (point_at vs 6) (point_at vs 9) (tetrahedron_accepted vs is))
 
-pub solid_shape : (kind : SolidKind) (vs : List ℤ) → IsAccepted kind vs → is_flat (vertices_of kind vs) ≡ false
+pub solid_shape : (kind : SolidKind) (vs : List ℤ) → IsAccepted kind vs → are_coplanar (vertices_of kind vs) ≡ false
 solid_shape Cuboid vs is =
     frustum_solid (value vs 0) (value vs 0) (value vs 1) (value vs 1) (value vs 2) (box_accepted vs is)
 solid_shape Trd vs is =
@@ -36,8 +36,8 @@ solid_shape Tet vs is = tetrahedron_accepted vs is
 pub hull_of_shape-distinct : (kind : SolidKind) (vs : List ℤ) → IsAccepted kind vs → IsHullOf (solid_of kind vs) (distinct (vertices_of kind vs))
 hull_of_shape-distinct kind vs is = IsHullOf-distinct (solid_of kind vs) (vertices_of kind vs) (hull_of_shape kind vs is)
 
-pub solid_shape-distinct : (kind : SolidKind) (vs : List ℤ) → IsAccepted kind vs → is_flat (distinct (vertices_of kind vs)) ≡ false
-solid_shape-distinct kind vs is = is_flat-distinct (vertices_of kind vs) ∙ solid_shape kind vs is
+pub solid_shape-distinct : (kind : SolidKind) (vs : List ℤ) → IsAccepted kind vs → are_coplanar (distinct (vertices_of kind vs)) ≡ false
+solid_shape-distinct kind vs is = are_coplanar-distinct (vertices_of kind vs) ∙ solid_shape kind vs is
 
 -- ---- bounds
 value_within : (bound : ℕ) (vs : List ℤ) (i : ℕ) → All (λ v. unsigned_abs v ≤ bound) vs → unsigned_abs (value vs i) ≤ bound
@@ -80,7 +80,7 @@ vertices_few Trd vs = omega arith
 vertices_few Tet vs = omega arith
 
 -- ---- a flat TET
-pub flat_tetrahedron : (vs : List ℤ) → whole_fault Tet vs ≡ Some Flat ↔ is_flat (distinct (vertices_of Tet vs)) ≡ true
+pub flat_tetrahedron : (vs : List ℤ) → whole_fault Tet vs ≡ Some Flat ↔ are_coplanar (distinct (vertices_of Tet vs)) ≡ true
 flat_tetrahedron vs =
-    let same = is_flat-distinct (vertices_of Tet vs) in
+    let same = are_coplanar-distinct (vertices_of Tet vs) in
     (λ e. same ∙ (flat_fault vs).0 e, λ e. (flat_fault vs).1 (sym same ∙ e))

@@ -2,18 +2,18 @@
 use Rattle.std.proofs.Common.{◌≡◌, ◌≢◌, ◌↔◌, true, false, ℤ, pos, ◌+ℤ◌, ◌-ℤ◌, ◌*ℤ◌, neg_ℤ, ◌≤ℤ◌, ◌<ℤ◌, int_lt, List, [], ◌∷◌, true≢false, sym, ap, ◌∙◌, subst, arith}
 use Rattle.std.proofs.lemmas.Bool.{cond_both}
 use Rattle.gx_num.specs.declared.vector.V3.{V3}
-use Rattle.gx_num.specs.Vector.{dot_of}
-use Rattle.gx_num.specs.Space.{Vec4, HalfSpace, height}
-use Rattle.gx_algebra.specs.Vectors.{difference_of}
+use Rattle.gx_num.specs.Vector.{dot_of, difference_of}
+use Rattle.gx_num.specs.Space.{HalfSpace, normal_dot}
+use Rattle.gx_num.specs.Vector4.{Vec4}
 use Rattle.gx_algebra.proofs.Ring.{Term}
 use Rattle.gx_algebra.proofs.Terms as term
 use Rattle.gx_algebra.proofs.Terms.{Term3, Term4, TermHalfSpace, ◌≣◌, ◌⊕◌, ◌⊖◌, ◌⊗◌, none}
 use Rattle.gx_algebra.proofs.Identity.{identity, number, vector3, vector4, half_space}
 use Rattle.gx_algebra.proofs.Order.{mul_nonneg, mul_nonneg_nonpos, neg-mul-neg, square_pos, le_of_mul-le-left}
-use Rattle.gx_plane.proofs.Search.{dot_of-turned}
-use Rattle.gx_plane.specs.Plane.{side_of, turned, normal_of, is_zero}
-use Rattle.gx_plane.proofs.PlaneFacts.{side_of-turned}
-use Rattle.gx_shapes.specs.Points.{is_flat}
+use Rattle.gx_plane.proofs.Search.{dot_of-flipped}
+use Rattle.gx_plane.specs.Plane.{side_of, flipped, normal_of, is_zero}
+use Rattle.gx_plane.proofs.PlaneFacts.{side_of-flipped}
+use Rattle.gx_shapes.specs.Points.{are_coplanar}
 use Rattle.gx_shapes.specs.Shape.{inner, tetrahedron}
 use Rattle.gx_shapes.specs.Hull.{IsAtMost, IsBound, IsHullOf}
 use Rattle.gx_shapes.proofs.Bounds.{All-is_in, not_is_zero}
@@ -30,10 +30,10 @@ plane_term a b c = record { n = normal_term a b c; e = term.dot_of (normal_term 
 
 -- how far a point is beyond a plane, times the length of the normal and the point's w
 abbrev excess : HalfSpace → Vec4 → ℤ
-excess h p = height h p -ℤ (h.e *ℤ p.w)
+excess h p = normal_dot h p -ℤ (h.e *ℤ p.w)
 
 abbrev excess_term : TermHalfSpace → Term4 → Term
-excess_term h p = term.height h p ⊖ (h.e ⊗ p.w)
+excess_term h p = term.normal_dot h p ⊖ (h.e ⊗ p.w)
 
 -- ---- volumes of four points
 volume_first : (a b c : V3) → volume a b c a ≡ pos 0
@@ -66,8 +66,8 @@ record IsInner (a b c d : V3) (h : HalfSpace) : Type 0 where
   plane : volume a b c d ≢ pos 0 → is_zero h.n ≡ false
   same_side : (p : Vec4) → IsAtMost h p → pos 0 ≤ℤ (volume a b c d *ℤ excess (plane_of a b c) p)
 
-excess-turned : (h : HalfSpace) (p : Vec4) → excess (turned h) p ≡ pos 0 -ℤ excess h p
-excess-turned = identity (half_space ∷ vector4 ∷ []) (λ h p. excess_term (record { n = record { x = none ⊖ h.n.x; y = none ⊖ h.n.y; z = none ⊖ h.n.z }; e = none ⊖ h.e }) p ≣ none ⊖ excess_term h p) tt
+excess-flipped : (h : HalfSpace) (p : Vec4) → excess (flipped h) p ≡ pos 0 -ℤ excess h p
+excess-flipped = identity (half_space ∷ vector4 ∷ []) (λ h p. excess_term (record { n = record { x = none ⊖ h.n.x; y = none ⊖ h.n.y; z = none ⊖ h.n.z }; e = none ⊖ h.e }) p ≣ none ⊖ excess_term h p) tt
 
 mul_nonpos_nonpos : (v s : ℤ) → v ≤ℤ pos 0 → s ≤ℤ pos 0 → pos 0 ≤ℤ (v *ℤ s)
 mul_nonpos_nonpos v s h k = omega (arith, ints, mul_nonneg (neg_ℤ v) (neg_ℤ s) (omega (arith, ints)) (omega (arith, ints)), neg-mul-neg v s)
@@ -82,26 +82,26 @@ IsInner-plane_of a b c d low = record {
   same_side = λ p k. mul_nonpos_nonpos (volume a b c d) (excess (plane_of a b c) p) low (omega (arith, ints));
 }
 
-IsInner-turned : (a b c d : V3) → pos 0 <ℤ volume a b c d → IsInner a b c d (turned (plane_of a b c))
-IsInner-turned a b c d high = record {
+IsInner-flipped : (a b c d : V3) → pos 0 <ℤ volume a b c d → IsInner a b c d (flipped (plane_of a b c))
+IsInner-flipped a b c d high = record {
   first = on a (volume_first a b c);
   second = on b (volume_second a b c);
   third = on c (volume_third a b c);
-  fourth = omega (arith, ints, side_of-turned h d, side_of-plane_of a b c d);
-  plane = λ ne. not_is_zero (turned h).n (difference_of d a) (λ e. ne (omega (arith, ints, e, dot_of-turned (normal_of a b c) (difference_of d a))));
-  same_side = λ p k. mul_nonneg (volume a b c d) (excess h p) (omega (arith, ints)) (omega (arith, ints, excess-turned h p));
+  fourth = omega (arith, ints, side_of-flipped h d, side_of-plane_of a b c d);
+  plane = λ ne. not_is_zero (flipped h).n (difference_of d a) (λ e. ne (omega (arith, ints, e, dot_of-flipped (normal_of a b c) (difference_of d a))));
+  same_side = λ p k. mul_nonneg (volume a b c d) (excess h p) (omega (arith, ints)) (omega (arith, ints, excess-flipped h p));
 }
   where
     h : HalfSpace
     h = plane_of a b c
 
-    on : (p : V3) → volume a b c p ≡ pos 0 → side_of (turned h) p ≡ pos 0
-    on p e = side_of-turned h p ∙ ap (λ (v : ℤ). pos 0 -ℤ v) (side_of-plane_of a b c p ∙ e)
+    on : (p : V3) → volume a b c p ≡ pos 0 → side_of (flipped h) p ≡ pos 0
+    on p e = side_of-flipped h p ∙ ap (λ (v : ℤ). pos 0 -ℤ v) (side_of-plane_of a b c p ∙ e)
 
 IsInner-inner : (a b c d : V3) → IsInner a b c d (inner a b c d)
 IsInner-inner a b c d =
-    cond_both (int_lt (pos 0) (side_of (plane_of a b c) d)) (turned (plane_of a b c)) (plane_of a b c) (IsInner a b c d)
-    (λ e. IsInner-turned a b c d (subst (λ (v : ℤ). pos 0 <ℤ v) (side_of-plane_of a b c d) (beyond (side_of (plane_of a b c) d) e)))
+    cond_both (int_lt (pos 0) (side_of (plane_of a b c) d)) (flipped (plane_of a b c)) (plane_of a b c) (IsInner a b c d)
+    (λ e. IsInner-flipped a b c d (subst (λ (v : ℤ). pos 0 <ℤ v) (side_of-plane_of a b c d) (beyond (side_of (plane_of a b c) d) e)))
     (λ e. IsInner-plane_of a b c d (subst (λ (v : ℤ). v ≤ℤ pos 0) (side_of-plane_of a b c d) (within (side_of (plane_of a b c) d) e)))
   where
     beyond : (v : ℤ) → int_lt (pos 0) v ≡ true → pos 0 <ℤ v
@@ -153,7 +153,7 @@ tetrahedron_hull a b c d ne =
           (bound (inner b c d a) (on_a.plane (λ e. ne ((opposite_zero (volume_bcda a b c d)).0 e))) on_a.fourth (zero on_a.first) (zero on_a.second) (zero on_a.third));
       bounded = λ h s p w e.
           let all = All-is_in (tetrahedron a b c d) p e in
-          most (height h p) (h.e *ℤ p.w)
+          most (normal_dot h p) (h.e *ℤ p.w)
           (mean (volume a b c d) (excess h p) (side_of h a) (side_of h b) (side_of h c) (side_of h d) (pos 0 -ℤ excess (plane_of b c d) p) (excess (plane_of a c d) p) (pos 0 -ℤ excess (plane_of a b d) p) (excess (plane_of a b c) p) ne (barycentric a b c d h p)
           (other_sign (volume a b c d) (volume b c d a) (excess (plane_of b c d) p) (volume_bcda a b c d) (on_a.same_side p (all 3 h (omega arith))))
           (subst (λ (v : ℤ). pos 0 ≤ℤ (v *ℤ excess (plane_of a c d) p)) (volume_acdb a b c d) (on_b.same_side p (all 2 h (omega arith))))
@@ -175,7 +175,7 @@ tetrahedron_hull a b c d ne =
     most x y h = omega (arith, ints)
 
 -- ---- the volume isn't 0 where the points aren't coplanar
-pub tetrahedron_apart : (a b c d : V3) → is_flat (four a b c d) ≡ false → volume a b c d ≢ pos 0
+pub tetrahedron_apart : (a b c d : V3) → are_coplanar (four a b c d) ≡ false → volume a b c d ≢ pos 0
 tetrahedron_apart a b c d solid e =
     let flat = All-four (λ (t : V3 × V3 × V3). AreLevel (four a b c d) t.0 t.1 t.2) (a, b, c) (a, b, d) (a, c, d) (b, c, d)
     (level a b c (volume_first a b c) (volume_second a b c) (volume_third a b c) e)

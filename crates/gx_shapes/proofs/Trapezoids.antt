@@ -3,19 +3,20 @@ use Rattle.std.proofs.Common.{◌≡◌, ◌≢◌, ◌⊎◌, inl, inr, suc, fa
 use Rattle.std.proofs.lemmas.List.Elements.{All-append, All-from_recursion}
 use Rattle.gx_num.specs.declared.vector.V3.{V3}
 use Rattle.gx_num.specs.Vector.{dot_of}
-use Rattle.gx_num.specs.Space.{Vec4, HalfSpace, is_in}
+use Rattle.gx_num.specs.Space.{HalfSpace, is_in}
+use Rattle.gx_num.specs.Vector4.{Vec4}
 use Rattle.gx_algebra.proofs.Ring.{Term, num, opp}
 use Rattle.gx_algebra.proofs.Terms.{Term3, ◌≣◌, ◌⊕◌, ◌⊖◌, ◌⊗◌}
 use Rattle.gx_algebra.proofs.Identity.{identity, number}
 use Rattle.gx_algebra.proofs.Order.{mul_pos, mul-neg, neg-mul-neg, mul-le-left, le_of_mul-le-left}
 use Rattle.gx_algebra.proofs.Laws.{neg-mul}
 use Rattle.gx_plane.specs.Plane.{Supports, side_of}
-use Rattle.gx_shapes.specs.Points.{is_flat}
+use Rattle.gx_shapes.specs.Points.{are_coplanar}
 use Rattle.gx_shapes.specs.Shape.{half_space, point, box, trapezoid, corners}
 use Rattle.gx_shapes.specs.Hull.{IsAtMost, IsBound, IsHullOf}
 use Rattle.gx_shapes.proofs.Bounds.{All-is_in, not_is_zero}
 use Rattle.gx_shapes.proofs.Distinct.{by_bool}
-use Rattle.gx_shapes.proofs.Flatness.{volume, volume_term, IsCoplanar, Decides-is_flat}
+use Rattle.gx_shapes.proofs.Flatness.{volume, volume_term, IsCoplanar, Decides-are_coplanar}
 use Rattle.gx_algebra.proofs.Lists.{All-four, All-append_parts}
 use borrow.Author.Differences.{ints}
 
@@ -235,8 +236,8 @@ point_term x y z = record { x = x; y = y; z = z }
 volumes_are : (a1 a2 b1 b2 c : ℤ) → volumes (point (neg_ℤ a1) (neg_ℤ b1) (neg_ℤ c)) (point a1 (neg_ℤ b1) (neg_ℤ c)) (point (neg_ℤ a1) b1 (neg_ℤ c)) (point (neg_ℤ a2) (neg_ℤ b2) c) (point a2 (neg_ℤ b2) c) (point (neg_ℤ a2) b2 c) ≡ pos 8 *ℤ ((a1 +ℤ a2) *ℤ ((b1 +ℤ b2) *ℤ c))
 volumes_are = identity (number ∷ number ∷ number ∷ number ∷ number ∷ []) (λ a1 a2 b1 b2 c. volumes_term (point_term (opp a1) (opp b1) (opp c)) (point_term a1 (opp b1) (opp c)) (point_term (opp a1) b1 (opp c)) (point_term (opp a2) (opp b2) c) (point_term a2 (opp b2) c) (point_term (opp a2) b2 c) ≣ num (pos 8) ⊗ ((a1 ⊕ a2) ⊗ ((b1 ⊕ b2) ⊗ c))) tt
 
-pub frustum_solid : (a1 a2 b1 b2 c : ℤ) → IsFrustum a1 a2 b1 b2 c → is_flat (frustum a1 a2 b1 b2 c) ≡ false
-frustum_solid a1 a2 b1 b2 c is = by_bool (is_flat (frustum a1 a2 b1 b2 c)) (λ e. absurd (never ((Decides-is_flat (frustum a1 a2 b1 b2 c)).0 e))) (λ e. e)
+pub frustum_solid : (a1 a2 b1 b2 c : ℤ) → IsFrustum a1 a2 b1 b2 c → are_coplanar (frustum a1 a2 b1 b2 c) ≡ false
+frustum_solid a1 a2 b1 b2 c is = by_bool (are_coplanar (frustum a1 a2 b1 b2 c)) (λ e. absurd (never ((Decides-are_coplanar (frustum a1 a2 b1 b2 c)).0 e))) (λ e. e)
   where
     o : V3
     o = point (pos 0) (pos 0) (pos 0)

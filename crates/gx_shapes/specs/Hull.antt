@@ -1,12 +1,13 @@
 -- What it takes for vertices to be those of a solid.
 use Rattle.std.specs.Prelude.{◌≡◌, pos, ◌<ℤ◌, ◌≤ℤ◌, ◌*ℤ◌, IsTrue, false, List, All}
 use Rattle.gx_num.specs.declared.vector.V3.{V3}
-use Rattle.gx_num.specs.Space.{Vec4, HalfSpace, height, is_in}
+use Rattle.gx_num.specs.Space.{HalfSpace, is_in, normal_dot}
+use Rattle.gx_num.specs.Vector4.{Vec4}
 use Rattle.gx_plane.specs.Plane.{Supports, is_zero}
 
 -- the point is at n . p <= e
 abbrev pub IsAtMost : HalfSpace → Vec4 → Type 0
-IsAtMost h p = height h p ≤ℤ (h.e *ℤ p.w)
+IsAtMost h p = normal_dot h p ≤ℤ (h.e *ℤ p.w)
 
 -- an inequality of a solid: it speaks of a plane, and no vertex is beyond it
 pub record IsBound (vertices : List V3) (h : HalfSpace) : Type 0 where

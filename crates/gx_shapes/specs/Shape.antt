@@ -9,10 +9,10 @@ use Rattle.gx_num.specs.Vector.{dot_of}
 use Rattle.gx_num.specs.Space.{HalfSpace}
 use Rattle.gx_table.specs.declared.fault.FaultName.{FaultName}
 use Rattle.gx_table.specs.declared.fault.FaultName.TheVariants.{Half, Flat}
-use Rattle.gx_plane.specs.Plane.{normal_of, side_of, turned}
+use Rattle.gx_plane.specs.Plane.{normal_of, side_of, flipped}
 use Rattle.gx_shapes.specs.declared.kind.SolidKind.{SolidKind}
 use Rattle.gx_shapes.specs.declared.kind.SolidKind.TheVariants.{Cuboid, Trd, Tet}
-use Rattle.gx_shapes.specs.Points.{is_flat}
+use Rattle.gx_shapes.specs.Points.{are_coplanar}
 
 -- value i of a solid, from 0
 abbrev pub value : List ℤ → ℕ → ℤ
@@ -54,7 +54,7 @@ trapezoid dx1 dx2 dy1 dy2 dz =
 abbrev pub inner : V3 → V3 → V3 → V3 → HalfSpace
 inner a b c d =
     let plane : HalfSpace = record { n = normal_of a b c; e = dot_of (normal_of a b c) a } in
-    if int_lt (pos 0) (side_of plane d) then turned plane else plane
+    if int_lt (pos 0) (side_of plane d) then flipped plane else plane
 
 -- on the inner side of, or on, each plane through three of the points
 abbrev pub tetrahedron : V3 → V3 → V3 → V3 → List HalfSpace
@@ -120,7 +120,7 @@ first_fault kind vs = first_fault_from kind [] vs
 abbrev pub whole_fault : SolidKind → List ℤ → Option FaultName
 whole_fault Cuboid vs = None
 whole_fault Trd vs = None
-whole_fault Tet vs = if is_flat (vertices_of Tet vs) then Some Flat else None
+whole_fault Tet vs = if are_coplanar (vertices_of Tet vs) then Some Flat else None
 
 -- a kind and values that make a solid
 pub record IsAccepted (kind : SolidKind) (vs : List ℤ) : Type 0 where

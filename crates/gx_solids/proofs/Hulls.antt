@@ -6,10 +6,10 @@ use Rattle.gx_num.specs.declared.vector.V3.{V3}
 use Rattle.gx_table.specs.declared.fault.FaultName.TheVariants.{Flat as FlatName}
 use Rattle.gx_shapes.specs.declared.kind.SolidKind.{SolidKind}
 use Rattle.gx_shapes.specs.declared.kind.SolidKind.TheVariants.{Cuboid, Trd, Tet}
-use Rattle.gx_shapes.specs.Points.{distinct, is_flat}
+use Rattle.gx_shapes.specs.Points.{distinct, are_coplanar}
 use Rattle.gx_shapes.specs.Shape.{value_count, vertices_of, first_fault, whole_fault}
 use Rattle.gx_shapes.proofs.Distinct.{length-distinct_le}
-use Rattle.gx_shapes.proofs.Flatness.{is_flat-distinct}
+use Rattle.gx_shapes.proofs.Flatness.{are_coplanar-distinct}
 use Rattle.gx_shapes.proofs.Solids.{solid_shape-distinct, vertices_few, flat_tetrahedron}
 use Rattle.gx_hull.specs.declared.fault.HullFault.{HullFault}
 use Rattle.gx_hull.specs.declared.fault.HullFault.TheVariants.{Vertices, Flat}
@@ -34,17 +34,17 @@ module _ (points : List V3) where
   many_by false true e = absurd cc
   many_by false false e = absurd cc
 
-  pub flat_points : hull_of points ≡ Err Flat → is_flat (distinct points) ≡ true
-  flat_points e = flat_by (nat_lt 32 (length (distinct points))) (is_flat (distinct points)) e
+  pub flat_points : hull_of points ≡ Err Flat → are_coplanar (distinct points) ≡ true
+  flat_points e = flat_by (nat_lt 32 (length (distinct points))) (are_coplanar (distinct points)) e
 
-  pub solid_points : (hull : List V3) → hull_of points ≡ Ok hull → is_flat (distinct points) ≡ false
-  solid_points hull e = solid_by (nat_lt 32 (length (distinct points))) (is_flat (distinct points)) hull e
+  pub solid_points : (hull : List V3) → hull_of points ≡ Ok hull → are_coplanar (distinct points) ≡ false
+  solid_points hull e = solid_by (nat_lt 32 (length (distinct points))) (are_coplanar (distinct points)) hull e
 
   pub many_points : hull_of points ≡ Err Vertices → nat_lt 32 (length (distinct points)) ≡ true
-  many_points e = many_by (nat_lt 32 (length (distinct points))) (is_flat (distinct points)) e
+  many_points e = many_by (nat_lt 32 (length (distinct points))) (are_coplanar (distinct points)) e
 
 -- coplanar vertices are the fault of the whole solid
-pub whole_where_flat : (kind : SolidKind) (vs : List ℤ) → length vs ≡ value_count kind → first_fault kind vs ≡ None → is_flat (distinct (vertices_of kind vs)) ≡ true
+pub whole_where_flat : (kind : SolidKind) (vs : List ℤ) → length vs ≡ value_count kind → first_fault kind vs ≡ None → are_coplanar (distinct (vertices_of kind vs)) ≡ true
     → whole_fault kind vs ≡ Some FlatName
 whole_where_flat Cuboid vs count values flat =
     absurd (true≢false (sym flat ∙ solid_shape-distinct Cuboid vs (record { count = count; values = values; whole = refl })))
@@ -52,10 +52,10 @@ whole_where_flat Trd vs count values flat =
     absurd (true≢false (sym flat ∙ solid_shape-distinct Trd vs (record { count = count; values = values; whole = refl })))
 whole_where_flat Tet vs count values flat = (flat_tetrahedron vs).1 flat
 
-pub whole_where_solid : (kind : SolidKind) (vs : List ℤ) → is_flat (distinct (vertices_of kind vs)) ≡ false → whole_fault kind vs ≡ None
+pub whole_where_solid : (kind : SolidKind) (vs : List ℤ) → are_coplanar (distinct (vertices_of kind vs)) ≡ false → whole_fault kind vs ≡ None
 whole_where_solid Cuboid vs solid = refl
 whole_where_solid Trd vs solid = refl
-whole_where_solid Tet vs solid = rw (sym (is_flat-distinct (vertices_of Tet vs)) ∙ solid) refl
+whole_where_solid Tet vs solid = rw (sym (are_coplanar-distinct (vertices_of Tet vs)) ∙ solid) refl
 
 -- no kind here has so many vertices
 pub never_many : (kind : SolidKind) (vs : List ℤ) → nat_lt 32 (length (distinct (vertices_of kind vs))) ≡ false

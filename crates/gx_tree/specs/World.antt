@@ -1,7 +1,9 @@
 -- The hierarchy of volumes: so far a world alone.
 use Rattle.std.specs.Prelude.{ℕ, List, [], Option, None, Some, if◌then◌else◌}
 use Rattle.gx_num.specs.declared.ray.Ray.{Ray}
-use Rattle.gx_num.specs.Space.{Vec4, HalfSpace, Parameter, is_inside, point_of_ray}
+use Rattle.gx_num.specs.Space.{HalfSpace, is_inside}
+use Rattle.gx_num.specs.Vector4.{Vec4}
+use Rattle.gx_num.specs.Ray.{RayParameter, point_of_ray}
 use Rattle.gx_shapes.specs.Shape.{Shape, solid_of as solid_of_shape}
 
 -- the world's name, its solid by kind and values, and its material
@@ -18,5 +20,5 @@ abbrev pub deepest : World → Vec4 → Option (List ℕ)
 deepest world p = if is_inside (solid_of world) p then Some [] else None
 
 -- where the points of a ray are
-abbrev pub place_on : World → Ray → Parameter → Option (List ℕ)
+abbrev pub place_on : World → Ray → RayParameter → Option (List ℕ)
 place_on world ray t = deepest world (point_of_ray ray t)

@@ -1,7 +1,7 @@
 use Rattle.std.proofs.Common.{arith, ◌∙◌, refl}
 use Rattle.std.proofs.lemmas.Result.{err_from_is_err_and}
 use Rattle.std.proofs.lemmas.List.Elements.{recursion_from_All}
-use Rattle.gx_reader.specs.Rays.{IsKept}
+use Rattle.gx_reader.specs.Rays.{IsTraceable}
 use Rattle.g4exact.proofs.Traces.{traced_none, traced_more, traced_front, traced_whole}
 use Rattle.g4exact.proofs.trace.print_reports.Goals as goal
 
@@ -24,7 +24,7 @@ returns-in_err-print_report-clause-bytes g c =
     let l = c.loop-i.invariant in
     let report = c.in_err-print_report.ensures.bytes in
     let p = err_from_is_err_and c.from_residual.result c.from_residual.ensures.1 in
-    let kept = recursion_from_All IsKept input.rays c.count-i-end.ensures.kept in
+    let kept = recursion_from_All IsTraceable input.rays c.count-i-end.ensures.kept in
     let front = traced_front input.tree input.rays c.loop-i.i _ _ _ l.traced c.ray.result c.ray.ensures.ray report.0 report.1 c.in_err-print_report.ensures.shape kept report.2.front in
     rw p.1 (front.0, front.1, record { all = tt; front = front.2 })
 

@@ -1,4 +1,4 @@
-use Rattle.gx_plane.proofs.Search.{supports_is, turned_supports_is, and_then, and_else}
+use Rattle.gx_plane.proofs.Search.{supports_is, flipped_supports_is, and_then, and_else}
 use Rattle.gx_plane.proofs.between.parts.Goals as goal
 
 pub returns-then-supports : goal.returns-then-supports
@@ -6,7 +6,7 @@ returns-then-supports c =
     let h = c.args.plane.now in
     and_then c.supports.result c.supports-then-supports.result _ _
     (supports_is h c.args.a.now c.supports.result c.supports.ensures)
-    (turned_supports_is h c.args.b.now c.supports-then-supports.result (rw c.flip.ensures at c.supports-then-supports.ensures))
+    (flipped_supports_is h c.args.b.now c.supports-then-supports.result (rw c.flip.ensures at c.supports-then-supports.ensures))
     c.if-supports.true
 
 pub returns-else-supports : goal.returns-else-supports

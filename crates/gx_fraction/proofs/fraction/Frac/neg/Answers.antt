@@ -1,7 +1,7 @@
 use Rattle.std.proofs.Common.{◌≡◌, ◌≤◌, ◌^◌, ℤ, pos, neg_ℤ, ◌-ℤ◌, unsigned_abs, to_z, of_z, arith}
 use Rattle.std.specs.Int.{w128}
 use Rattle.std.proofs.lemmas.Int.{ints, to_z-of_z, fits_signed_from_abs}
-use Rattle.gx_fraction.specs.Fraction.{Fraction, IsKept, opposite}
+use Rattle.gx_fraction.specs.Fraction.{Fraction, IsNormal, opposite}
 use Rattle.gx_fraction.proofs.fraction.Frac.neg.Goals as goal
 
 same_opposite : (z : ℤ) → pos 0 -ℤ z ≡ neg_ℤ z
@@ -16,7 +16,7 @@ small z h = to_z-of_z w128 z (fits_signed_from_abs w128 z (omega arith))
 negated : (z : ℤ) → unsigned_abs z ≤ 2 ^ 126 → to_z w128 (of_z w128 (pos 0 -ℤ to_z w128 (of_z w128 z))) ≡ neg_ℤ z
 negated z h = let e = same_opposite z in let a = abs_opposite z in let s = small z h in rw (s, e) (small (neg_ℤ z) (omega (arith, a)))
 
-kept : (f : Fraction) → IsKept f → IsKept (opposite f)
+kept : (f : Fraction) → IsNormal f → IsNormal (opposite f)
 kept f k =
     let e = abs_opposite f.num in
     record {

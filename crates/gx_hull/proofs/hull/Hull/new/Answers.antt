@@ -1,5 +1,5 @@
 use Rattle.std.proofs.Common.{◌≡◌, sym, ap, ◌∙◌}
-use Rattle.gx_shapes.specs.Points.{distinct, is_flat}
+use Rattle.gx_shapes.specs.Points.{distinct, are_coplanar}
 use Rattle.gx_shapes.proofs.Distinct.{distinct-distinct}
 use Rattle.gx_hull.specs.Hull.{faces_of, extent_of}
 use Rattle.gx_hull.proofs.hull.Hull.new.Goals as goal
@@ -12,7 +12,7 @@ invariant_of-result c =
         most = c.in_ok-vertices.ensures.few;
         within = c.in_ok-vertices.ensures.within;
         once = ap distinct is ∙ distinct-distinct c.deref.result.now ∙ sym is;
-        solid = ap is_flat (sym c.deref-3.ensures.value) ∙ sym c.is_flat.ensures ∙ c.if-is_flat.false;
+        solid = ap are_coplanar (sym c.deref-3.ensures.value) ∙ sym c.are_coplanar.ensures ∙ c.if-are_coplanar.false;
       },
       c.in_ok-faces.ensures.ok ∙ ap faces_of c.deref-5.ensures.value,
       c.extent-extent.ensures ∙ ap extent_of c.deref-7.ensures.value,

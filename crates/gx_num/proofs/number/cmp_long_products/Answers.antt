@@ -1,6 +1,6 @@
 use Rattle.std.proofs.Common.{◌∙◌, arith}
 use Rattle.gx_num.proofs.Products.{by_quotients, by_remainders}
-use Rattle.gx_num.proofs.number.cmp_products.Goals as goal
+use Rattle.gx_num.proofs.number.cmp_long_products.Goals as goal
 
 pub returns-then-left-right : goal.returns-then-left-right
 returns-then-left-right c =

@@ -1,6 +1,6 @@
 use Rattle.std.proofs.Common.{◌≡◌, ◌+◌, ◌*◌}
 use Rattle.std.specs.Ordering.{nat_cmp}
-use Rattle.gx_num.proofs.number.cmp_products.Given as goal
+use Rattle.gx_num.proofs.number.cmp_long_products.Given as goal
 
 -- the products compare as the first ones do
 abbrev pub invariant-loop-c : goal.invariant-loop-c

@@ -1,28 +1,12 @@
--- Vectors of three and of four whole numbers: sums, products and determinants (any text on linear algebra).
+-- Vectors of four whole numbers: sums, products and determinants (any text on linear algebra).
 use Rattle.std.specs.Prelude.{ℤ, ◌+ℤ◌, ◌-ℤ◌, ◌*ℤ◌, pos}
-use Rattle.gx_num.specs.declared.vector.V3.{V3}
-use Rattle.gx_num.specs.Vector.{dot_of}
-use Rattle.gx_num.specs.Space.{Vec4}
 
--- a - b
-abbrev pub difference_of : V3 → V3 → V3
-difference_of a b = record { x = a.x -ℤ b.x; y = a.y -ℤ b.y; z = a.z -ℤ b.z }
-
--- the vector product
-abbrev pub cross_of : V3 → V3 → V3
-cross_of a b = record {
-  x = (a.y *ℤ b.z) -ℤ (a.z *ℤ b.y);
-  y = (a.z *ℤ b.x) -ℤ (a.x *ℤ b.z);
-  z = (a.x *ℤ b.y) -ℤ (a.y *ℤ b.x);
-}
-
--- the determinant of three vectors
-abbrev pub det3 : V3 → V3 → V3 → ℤ
-det3 a b c = dot_of a (cross_of b c)
-
--- k times v
-abbrev pub times3 : ℤ → V3 → V3
-times3 k v = record { x = k *ℤ v.x; y = k *ℤ v.y; z = k *ℤ v.z }
+-- Four whole numbers. As a point, with w above 0, they stand for (x/w, y/w, z/w).
+pub record Vec4 : Type 0 where
+  pub x : ℤ
+  pub y : ℤ
+  pub z : ℤ
+  pub w : ℤ
 
 -- the vector 0
 abbrev pub origin : Vec4
@@ -32,6 +16,7 @@ origin = record { x = pos 0; y = pos 0; z = pos 0; w = pos 0 }
 abbrev pub dot4 : Vec4 → Vec4 → ℤ
 dot4 a b = ((a.x *ℤ b.x +ℤ a.y *ℤ b.y) +ℤ a.z *ℤ b.z) +ℤ a.w *ℤ b.w
 
+-- a + b
 abbrev pub plus4 : Vec4 → Vec4 → Vec4
 plus4 a b = record { x = a.x +ℤ b.x; y = a.y +ℤ b.y; z = a.z +ℤ b.z; w = a.w +ℤ b.w }
 
@@ -39,6 +24,7 @@ plus4 a b = record { x = a.x +ℤ b.x; y = a.y +ℤ b.y; z = a.z +ℤ b.z; w = a
 abbrev pub times4 : ℤ → Vec4 → Vec4
 times4 k v = record { x = k *ℤ v.x; y = k *ℤ v.y; z = k *ℤ v.z; w = k *ℤ v.w }
 
+-- -v
 abbrev pub opposite4 : Vec4 → Vec4
 opposite4 v = record { x = pos 0 -ℤ v.x; y = pos 0 -ℤ v.y; z = pos 0 -ℤ v.z; w = pos 0 -ℤ v.w }
 
