@@ -13,9 +13,10 @@ use Rattle.gx_algebra.proofs.Order.{zero_of_mul}
 use Rattle.gx_plane.specs.Plane.{divisor_of, side_of, normal_of, plane_through}
 use Rattle.gx_plane.specs.Between.{triples_of}
 use Rattle.gx_plane.proofs.PlaneFacts.{plane_through_some, plane_through_none, side_of-plane_through}
-use Rattle.gx_shapes.specs.Points.{distinct, is_coplanar, are_coplanar, distinct_by}
+use Rattle.gx_convex.specs.Points.{distinct, is_coplanar, are_coplanar, distinct_by}
 use Rattle.gx_hull.specs.declared.fault.HullFault.TheVariants.{Vertices}
-use Rattle.gx_hull.specs.Hull.{is_same_plane, outward, faces_of, unless_flat, hull_of}
+use Rattle.gx_convex.specs.Faces.{is_same_plane, faces_of}
+use Rattle.gx_hull.specs.Hull.{unless_flat, hull_of}
 use Rattle.gx_hull.specs.Planes.{planes_of, has_all}
 use borrow.Author.Differences.{ints}
 

@@ -9,7 +9,7 @@ use Rattle.gx_num.specs.declared.vector.V3.{V3}
 use Rattle.gx_num.specs.Space.{HalfSpace}
 use Rattle.gx_plane.specs.Plane.{plane_through}
 use Rattle.gx_plane.specs.Between.{pairs_of, triples_of}
-use Rattle.gx_shapes.specs.Points.{distinct_by}
+use Rattle.gx_convex.specs.Points.{distinct_by}
 use Rattle.gx_hull.specs.Planes.{planes_of, planes_with, planes_with_two}
 
 pub drop-at : {X : Type 0} (xs : List X) (i : ℕ) (d : X) → i < length xs → drop i xs ≡ get_or xs i d ∷ drop (i + 1) xs

@@ -2,8 +2,9 @@ ghost use Rattle.std.specs.Prelude.{◌≡◌, All, IfOk, IfErr, Some};
 ghost use Rattle.std.specs.List.{list_all, list_any};
 ghost use Rattle.gx_num.specs.Vector.{IsWithin};
 ghost use Rattle.gx_plane.specs.Plane.{reach};
-ghost use Rattle.gx_shapes.specs.Points.{are_coplanar as is_flat_list};
-ghost use Rattle.gx_hull.specs.Hull.{supports as supports_of, outward as outward_of, is_same_plane, faces_of};
+ghost use Rattle.gx_convex.specs.Points.{are_coplanar as is_flat_list};
+ghost use Rattle.gx_plane.specs.Plane.{supports as supports_of};
+ghost use Rattle.gx_convex.specs.Faces.{is_same_plane, faces_of};
 ghost use Rattle.gx_hull.specs.Planes.{planes_of, has_all as all_on};
 ghost use Rattle.gx_hull.specs.declared.fault.HullFault.TheVariants.{NoMemory};
 

@@ -2,7 +2,9 @@ ghost use Rattle.std.specs.Prelude.{◌≡◌, ◌≤◌, ◌<◌, length, unsig
 ghost use Rattle.gx_num.specs.declared.vector.TheConstants.{M};
 ghost use Rattle.gx_num.specs.Vector.{IsWithin};
 ghost use Rattle.gx_plane.specs.Plane.{reach};
-ghost use Rattle.gx_hull.specs.Hull.{faces_of, extent_of, hull_of, IsVertices, IsHullCause};
+ghost use Rattle.gx_convex.specs.Faces.{faces_of};
+ghost use Rattle.gx_convex.specs.Extent.{extent_of};
+ghost use Rattle.gx_hull.specs.Hull.{hull_of, IsVertices, IsHullCause};
 
 use crate::HullFault;
 use crate::faces::{faces, are_coplanar};
@@ -25,7 +27,9 @@ pub struct Hull {
 impl Model for Hull {
     ghost use Rattle.std.specs.Prelude.{◌≡◌, List};
     ghost use Rattle.gx_num.specs.declared.vector.V3.{V3 as Point};
-    ghost use Rattle.gx_hull.specs.Hull.{IsVertices, faces_of, extent_of};
+    ghost use Rattle.gx_hull.specs.Hull.{IsVertices};
+    ghost use Rattle.gx_convex.specs.Faces.{faces_of};
+    ghost use Rattle.gx_convex.specs.Extent.{extent_of};
 
     ghost Value = { List Point };
 

@@ -1,5 +1,5 @@
 ghost use Rattle.std.specs.Prelude.{◌≡◌, IfOk};
-ghost use Rattle.gx_shapes.specs.Points.{distinct};
+ghost use Rattle.gx_convex.specs.Points.{distinct};
 ghost use Rattle.gx_shapes.specs.Shape.{IsShape, vertices_of};
 
 use crate::Hull;
@@ -18,7 +18,7 @@ pub struct Solid {
 
 impl Model for Solid {
     ghost use Rattle.std.specs.Prelude.{◌≡◌};
-    ghost use Rattle.gx_shapes.specs.Points.{distinct};
+    ghost use Rattle.gx_convex.specs.Points.{distinct};
     ghost use Rattle.gx_shapes.specs.Shape.{Shape, IsShape, vertices_of};
 
     ghost Value = { Shape };

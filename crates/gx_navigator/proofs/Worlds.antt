@@ -7,11 +7,12 @@ use Rattle.gx_num.specs.declared.vector.V3.{V3}
 use Rattle.gx_num.specs.declared.ray.Ray.{Ray}
 use Rattle.gx_num.specs.Space.{HalfSpace}
 use Rattle.gx_num.specs.Ray.{RayParameter, HasDirection, point_of_ray, IsPositive, IsBelow}
-use Rattle.gx_shapes.specs.Points.{distinct}
+use Rattle.gx_convex.specs.Points.{distinct}
 use Rattle.gx_shapes.specs.Shape.{IsShape, solid_of, vertices_of}
 use Rattle.gx_num.specs.declared.extent.Extent.{Extent}
-use Rattle.gx_hull.specs.Hull.{faces_of, extent_of}
-use Rattle.gx_hull.specs.Laws.{AreTheSolid, IsBetween}
+use Rattle.gx_convex.specs.Faces.{faces_of}
+use Rattle.gx_convex.specs.Extent.{extent_of}
+use Rattle.gx_convex.specs.Laws.{AreTheSolid, IsBetween}
 use Rattle.gx_solids.proofs.Faces.{are_the_solid}
 use Rattle.gx_path.specs.Report.{Row, IsReport}
 use Rattle.gx_tree.specs.World.{World, place_on}

@@ -6,7 +6,7 @@ use Rattle.gx_algebra.proofs.Order.{by_sign}
 use Rattle.gx_table.specs.declared.fault.FaultName.TheVariants.{Flat}
 use Rattle.gx_shapes.specs.declared.kind.SolidKind.{SolidKind}
 use Rattle.gx_shapes.specs.declared.kind.SolidKind.TheVariants.{Cuboid, Trd, Tet}
-use Rattle.gx_shapes.specs.Points.{are_coplanar}
+use Rattle.gx_convex.specs.Points.{are_coplanar}
 use Rattle.gx_shapes.specs.Shape.{value, value_count, vertices_of, half_where, ValueFault, fault_or, first_fault, whole_fault, IsAccepted}
 use Rattle.gx_shapes.proofs.Trapezoids.{IsWidth, IsFrustum}
 use borrow.Author.Differences.{ints}

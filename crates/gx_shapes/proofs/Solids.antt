@@ -5,12 +5,12 @@ use Rattle.gx_num.specs.Vector.{IsWithin}
 use Rattle.gx_table.specs.declared.fault.FaultName.TheVariants.{Flat}
 use Rattle.gx_shapes.specs.declared.kind.SolidKind.{SolidKind}
 use Rattle.gx_shapes.specs.declared.kind.SolidKind.TheVariants.{Cuboid, Trd, Tet}
-use Rattle.gx_shapes.specs.Points.{distinct, are_coplanar}
+use Rattle.gx_convex.specs.Points.{distinct, are_coplanar}
 use Rattle.gx_shapes.specs.Shape.{value, value_count, point, point_at, corners, solid_of, vertices_of, whole_fault, IsAccepted}
-use Rattle.gx_shapes.specs.Hull.{IsHullOf}
+use Rattle.gx_convex.specs.Hull.{IsHullOf}
 use Rattle.gx_shapes.proofs.Accepted.{box_accepted, trapezoid_accepted, tetrahedron_accepted, flat_fault}
-use Rattle.gx_shapes.proofs.Distinct.{IsHullOf-distinct}
-use Rattle.gx_shapes.proofs.Flatness.{are_coplanar-distinct}
+use Rattle.gx_convex.proofs.Distinct.{IsHullOf-distinct}
+use Rattle.gx_convex.proofs.Coplanar.{are_coplanar-distinct}
 use Rattle.gx_shapes.proofs.Tetrahedra.{tetrahedron_hull, tetrahedron_apart}
 use Rattle.gx_shapes.proofs.Trapezoids.{frustum, box_hull, trapezoid_hull, frustum_solid}
 use Rattle.gx_algebra.proofs.Lists.{All-four}

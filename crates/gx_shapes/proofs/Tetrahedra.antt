@@ -13,12 +13,12 @@ use Rattle.gx_algebra.proofs.Order.{mul_nonneg, mul_nonneg_nonpos, neg-mul-neg, 
 use Rattle.gx_plane.proofs.Search.{dot_of-flipped}
 use Rattle.gx_plane.specs.Plane.{side_of, flipped, normal_of, is_zero}
 use Rattle.gx_plane.proofs.PlaneFacts.{side_of-flipped}
-use Rattle.gx_shapes.specs.Points.{are_coplanar}
+use Rattle.gx_convex.specs.Points.{are_coplanar}
 use Rattle.gx_shapes.specs.Shape.{inner, tetrahedron}
-use Rattle.gx_shapes.specs.Hull.{IsAtMost, IsBound, IsHullOf}
-use Rattle.gx_shapes.proofs.Bounds.{All-is_in, not_is_zero}
+use Rattle.gx_convex.specs.Hull.{IsAtMost, IsBound, IsHullOf}
+use Rattle.gx_convex.proofs.Bounds.{All-is_in, not_is_zero}
 use Rattle.gx_plane.proofs.Candidates.{normal_term}
-use Rattle.gx_shapes.proofs.Flatness.{volume, volume_term, volume_swap_third, AreLevel, Decides-triples}
+use Rattle.gx_convex.proofs.Coplanar.{volume, volume_term, volume_swap_third, AreLevel, Decides-triples}
 use Rattle.gx_algebra.proofs.Lists.{All-four}
 use borrow.Author.Differences.{ints}
 

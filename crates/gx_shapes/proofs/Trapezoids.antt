@@ -11,12 +11,12 @@ use Rattle.gx_algebra.proofs.Identity.{identity, number}
 use Rattle.gx_algebra.proofs.Order.{mul_pos, mul-neg, neg-mul-neg, mul-le-left, le_of_mul-le-left}
 use Rattle.gx_algebra.proofs.Laws.{neg-mul}
 use Rattle.gx_plane.specs.Plane.{Supports, side_of}
-use Rattle.gx_shapes.specs.Points.{are_coplanar}
+use Rattle.gx_convex.specs.Points.{are_coplanar}
 use Rattle.gx_shapes.specs.Shape.{half_space, point, box, trapezoid, corners}
-use Rattle.gx_shapes.specs.Hull.{IsAtMost, IsBound, IsHullOf}
-use Rattle.gx_shapes.proofs.Bounds.{All-is_in, not_is_zero}
-use Rattle.gx_shapes.proofs.Distinct.{by_bool}
-use Rattle.gx_shapes.proofs.Flatness.{volume, volume_term, IsCoplanar, Decides-are_coplanar}
+use Rattle.gx_convex.specs.Hull.{IsAtMost, IsBound, IsHullOf}
+use Rattle.gx_convex.proofs.Bounds.{All-is_in, not_is_zero}
+use Rattle.gx_convex.proofs.Distinct.{by_bool}
+use Rattle.gx_convex.proofs.Coplanar.{volume, volume_term, IsCoplanar, Decides-are_coplanar}
 use Rattle.gx_algebra.proofs.Lists.{All-four, All-append_parts}
 use borrow.Author.Differences.{ints}
 

@@ -12,7 +12,7 @@ use Rattle.gx_table.specs.declared.fault.FaultName.TheVariants.{Half, Flat}
 use Rattle.gx_plane.specs.Plane.{normal_of, side_of, flipped}
 use Rattle.gx_shapes.specs.declared.kind.SolidKind.{SolidKind}
 use Rattle.gx_shapes.specs.declared.kind.SolidKind.TheVariants.{Cuboid, Trd, Tet}
-use Rattle.gx_shapes.specs.Points.{are_coplanar}
+use Rattle.gx_convex.specs.Points.{are_coplanar}
 
 -- value i of a solid, from 0
 abbrev pub value : List ℤ → ℕ → ℤ

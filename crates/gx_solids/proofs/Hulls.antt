@@ -6,10 +6,10 @@ use Rattle.gx_num.specs.declared.vector.V3.{V3}
 use Rattle.gx_table.specs.declared.fault.FaultName.TheVariants.{Flat as FlatName}
 use Rattle.gx_shapes.specs.declared.kind.SolidKind.{SolidKind}
 use Rattle.gx_shapes.specs.declared.kind.SolidKind.TheVariants.{Cuboid, Trd, Tet}
-use Rattle.gx_shapes.specs.Points.{distinct, are_coplanar}
+use Rattle.gx_convex.specs.Points.{distinct, are_coplanar}
 use Rattle.gx_shapes.specs.Shape.{value_count, vertices_of, first_fault, whole_fault}
-use Rattle.gx_shapes.proofs.Distinct.{length-distinct_le}
-use Rattle.gx_shapes.proofs.Flatness.{are_coplanar-distinct}
+use Rattle.gx_convex.proofs.Distinct.{length-distinct_le}
+use Rattle.gx_convex.proofs.Coplanar.{are_coplanar-distinct}
 use Rattle.gx_shapes.proofs.Solids.{solid_shape-distinct, vertices_few, flat_tetrahedron}
 use Rattle.gx_hull.specs.declared.fault.HullFault.{HullFault}
 use Rattle.gx_hull.specs.declared.fault.HullFault.TheVariants.{Vertices, Flat}

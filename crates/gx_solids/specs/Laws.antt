@@ -1,8 +1,8 @@
 -- The faces of a solid's vertices are the solid, for each kind.
 use Rattle.std.specs.Prelude.{ℤ, List}
-use Rattle.gx_hull.specs.Laws.{AreTheSolid}
+use Rattle.gx_convex.specs.Laws.{AreTheSolid}
 use Rattle.gx_shapes.specs.declared.kind.SolidKind.{SolidKind}
-use Rattle.gx_shapes.specs.Points.{distinct}
+use Rattle.gx_convex.specs.Points.{distinct}
 use Rattle.gx_shapes.specs.Shape.{IsAccepted, solid_of, vertices_of}
 
 abbrev pub FacesAreTheSolid : Type 0

@@ -1,8 +1,8 @@
 use Rattle.std.proofs.Common.{◌≡◌, ◌+◌, Option, Some, None, List, [], ◌++◌, filter_map, drop, reverse, sym, ap, ◌∙◌}
 use Rattle.std.specs.List.{cons_option}
 use Rattle.gx_num.specs.Space.{HalfSpace}
-use Rattle.gx_hull.specs.Hull.{outward, is_same_plane, faces_of}
-use Rattle.gx_shapes.specs.Points.{distinct_by}
+use Rattle.gx_convex.specs.Faces.{is_same_plane, faces_of}
+use Rattle.gx_convex.specs.Points.{distinct_by}
 use Rattle.gx_hull.proofs.HullFacts.{faces_of-planes_of}
 use Rattle.gx_hull.proofs.Loops.{filter_map-drop, passed_over, kept_now}
 use Rattle.gx_hull.proofs.faces.faces.Goals as goal

@@ -1,6 +1,6 @@
 use Rattle.std.proofs.Common.{◌≡◌, ◌++◌, Some, filter_map, drop, reverse}
-use Rattle.gx_hull.specs.Hull.{is_same_plane, outward, faces_of}
-use Rattle.gx_shapes.specs.Points.{distinct_by}
+use Rattle.gx_convex.specs.Faces.{is_same_plane, faces_of}
+use Rattle.gx_convex.specs.Points.{distinct_by}
 use Rattle.gx_hull.proofs.faces.faces.Given as goal
 
 -- the faces so far and those of the planes to come are all faces

@@ -1,6 +1,6 @@
 use Rattle.std.proofs.lemmas.Bool.Decides.{same_from_decides}
-use Rattle.gx_hull.specs.Hull.{supports as supports_of}
-use Rattle.gx_hull.proofs.FaceFacts.{Decides-supports}
+use Rattle.gx_plane.specs.Plane.{supports as supports_of}
+use Rattle.gx_convex.proofs.FaceFacts.{Decides-supports}
 use Rattle.gx_hull.proofs.faces.supports.Goals as goal
 
 pub returns : goal.returns

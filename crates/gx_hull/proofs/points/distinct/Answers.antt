@@ -5,8 +5,8 @@ use Rattle.std.proofs.lemmas.List.Elements.{All-same}
 use Rattle.gx_num.specs.declared.vector.V3.{V3}
 use Rattle.gx_num.specs.Vector.{IsWithin}
 use Rattle.gx_plane.specs.Plane.{reach}
-use Rattle.gx_shapes.specs.Points.{is_same, distinct_by, distinct}
-use Rattle.gx_shapes.proofs.Distinct.{All-distinct}
+use Rattle.gx_convex.specs.Points.{is_same, distinct_by, distinct}
+use Rattle.gx_convex.proofs.Distinct.{All-distinct}
 use Rattle.gx_hull.proofs.HullFacts.{hull_of-too_many}
 use Rattle.gx_hull.proofs.Loops.{drop-at, first_time, passed_over, kept_now}
 use Rattle.gx_hull.proofs.points.distinct.Goals as goal

@@ -1,7 +1,7 @@
 use Rattle.std.proofs.Common.{◌≡◌, ◌∙◌, ap, sym, subst}
-use Rattle.gx_shapes.specs.Points.{distinct}
+use Rattle.gx_convex.specs.Points.{distinct}
 use Rattle.gx_shapes.specs.Shape.{IsShape, vertices_of}
-use Rattle.gx_hull.specs.Hull.{faces_of}
+use Rattle.gx_convex.specs.Faces.{faces_of}
 use Rattle.gx_path.specs.Report.{IsReport}
 use Rattle.gx_path.specs.Span.{rows_of}
 use Rattle.gx_navigator.specs.Bounded.{IsBounded, place_in}

@@ -1,7 +1,8 @@
 use Rattle.std.proofs.Common.{◌≡◌, sym, ap, ◌∙◌}
-use Rattle.gx_shapes.specs.Points.{distinct, are_coplanar}
-use Rattle.gx_shapes.proofs.Distinct.{distinct-distinct}
-use Rattle.gx_hull.specs.Hull.{faces_of, extent_of}
+use Rattle.gx_convex.specs.Points.{distinct, are_coplanar}
+use Rattle.gx_convex.proofs.Distinct.{distinct-distinct}
+use Rattle.gx_convex.specs.Faces.{faces_of}
+use Rattle.gx_convex.specs.Extent.{extent_of}
 use Rattle.gx_hull.proofs.hull.Hull.new.Goals as goal
 
 pub invariant_of-result : goal.invariant_of-result

@@ -5,7 +5,7 @@ use Rattle.std.proofs.lemmas.List.Elements.{All-nil, All-cons}
 use Rattle.std.proofs.lemmas.Int.{fold-int_min_bounds, fold-int_max_bounds}
 use Rattle.gx_num.specs.declared.vector.V3.{V3}
 use Rattle.gx_algebra.proofs.Lists.{All-from_map}
-use Rattle.gx_hull.specs.Hull.{lower, upper, extent_of}
+use Rattle.gx_convex.specs.Extent.{lower, upper, extent_of}
 
 -- a coordinate of a fold is the fold of the coordinates
 fold-part : (part : V3 → ℤ) (f : V3 → V3 → V3) (g : ℤ → ℤ → ℤ) → ((a b : V3) → part (f a b) ≡ g (part a) (part b)) → (p : V3) (ps : List V3) → part (fold f p ps) ≡ fold g (part p) (map part ps)

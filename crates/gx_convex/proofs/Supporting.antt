@@ -21,9 +21,9 @@ use Rattle.gx_plane.proofs.Complete.{within_term, lifted, within}
 use Rattle.gx_plane.proofs.Cones.{dot4-self_zero}
 use Rattle.gx_plane.proofs.Tilts.{tilted}
 use Rattle.gx_plane.proofs.PlaneFacts.{times3-primitive, plane_through_some, plane_through_none}
-use Rattle.gx_shapes.specs.Points.{are_coplanar}
+use Rattle.gx_convex.specs.Points.{are_coplanar}
 use Rattle.gx_plane.proofs.Candidates.{normal_term}
-use Rattle.gx_shapes.proofs.Flatness.{IsCoplanar, Decides-are_coplanar, volume, volume_term}
+use Rattle.gx_convex.proofs.Coplanar.{IsCoplanar, Decides-are_coplanar, volume, volume_term}
 use borrow.Author.Differences.{ints}
 
 -- ---- half-spaces and points as vectors of four numbers

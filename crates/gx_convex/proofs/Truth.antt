@@ -4,7 +4,7 @@ use Rattle.std.specs.Bool.{Decides}
 use Rattle.std.proofs.lemmas.Bool.Decides.{Decides-by_and}
 use Rattle.gx_num.specs.Space.{HalfSpace, is_in, is_inside, normal_dot}
 use Rattle.gx_num.specs.Vector4.{Vec4}
-use Rattle.gx_shapes.specs.Hull.{IsAtMost}
+use Rattle.gx_convex.specs.Hull.{IsAtMost}
 use borrow.Author.Differences.{ints}
 
 pub Decides-itself : (b : Bool) → Decides b (b ≡ true)

@@ -13,8 +13,8 @@ use Rattle.gx_algebra.proofs.Identity.{identity, number, natural, vector3, vecto
 use Rattle.gx_algebra.proofs.Identities.{same3}
 use Rattle.gx_algebra.proofs.Order.{mul_nonneg, mul_pos, mul-le-left, square_nonneg, mul-eq-zero}
 use Rattle.gx_plane.specs.Plane.{is_zero}
-use Rattle.gx_shapes.specs.Hull.{IsAtMost}
-use Rattle.gx_hull.proofs.Truth.{Decides-is_in, Decides-is_inside}
+use Rattle.gx_convex.specs.Hull.{IsAtMost}
+use Rattle.gx_convex.proofs.Truth.{Decides-is_in, Decides-is_inside}
 use borrow.Author.Differences.{ints}
 
 -- p + n/m

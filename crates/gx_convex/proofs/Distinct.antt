@@ -11,8 +11,8 @@ use Rattle.gx_num.specs.declared.vector.V3.{V3}
 use Rattle.gx_num.specs.Space.{HalfSpace}
 use Rattle.gx_algebra.proofs.Identities.{same3}
 use Rattle.gx_plane.specs.Plane.{side_of}
-use Rattle.gx_shapes.specs.Points.{is_same, distinct_by, distinct}
-use Rattle.gx_shapes.specs.Hull.{IsBound, IsHullOf}
+use Rattle.gx_convex.specs.Points.{is_same, distinct_by, distinct}
+use Rattle.gx_convex.specs.Hull.{IsBound, IsHullOf}
 
 pub Decides-is_same : (a b : V3) → Decides (is_same a b) (a ≡ b)
 Decides-is_same a b =

@@ -8,8 +8,8 @@ use Rattle.gx_num.specs.Space.{HalfSpace, is_in, normal_dot}
 use Rattle.gx_num.specs.Vector4.{Vec4}
 use Rattle.gx_plane.specs.Plane.{is_zero}
 use Rattle.gx_plane.proofs.Divisors.{zero-is_zero}
-use Rattle.gx_shapes.specs.Hull.{IsAtMost}
-use Rattle.gx_shapes.proofs.Distinct.{by_bool}
+use Rattle.gx_convex.specs.Hull.{IsAtMost}
+use Rattle.gx_convex.proofs.Distinct.{by_bool}
 use borrow.Author.Differences.{ints}
 
 pub All-is_in : (solid : List HalfSpace) (p : Vec4) → IsTrue (is_in solid p) → All (λ h. IsAtMost h p) solid

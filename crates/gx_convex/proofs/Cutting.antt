@@ -12,13 +12,14 @@ use Rattle.gx_algebra.proofs.Terms.{◌≣◌, ◌⊖◌, ◌⊗◌, none}
 use Rattle.gx_algebra.proofs.Identity.{identity, number, vector3, vector4}
 use Rattle.gx_plane.specs.Plane.{is_zero, side_of, flipped, unit_along}
 use Rattle.gx_plane.proofs.PlaneFacts.{side_of-flipped}
-use Rattle.gx_shapes.specs.Hull.{IsAtMost, IsBound, IsHullOf}
-use Rattle.gx_hull.specs.Hull.{lower, upper, faces_of, extent_of}
-use Rattle.gx_hull.specs.Laws.{IsBetween, FacesAreTheSolid}
-use Rattle.gx_hull.proofs.Truth.{Decides-itself, Decides-is_in, Decides-is_inside}
-use Rattle.gx_hull.proofs.Strict.{strict}
-use Rattle.gx_hull.proofs.FaceFacts.{faces_bound, implied}
-use Rattle.gx_hull.proofs.Extents.{low_below, high_above}
+use Rattle.gx_convex.specs.Hull.{IsAtMost, IsBound, IsHullOf}
+use Rattle.gx_convex.specs.Extent.{lower, upper, extent_of}
+use Rattle.gx_convex.specs.Faces.{faces_of}
+use Rattle.gx_convex.specs.Laws.{IsBetween, FacesAreTheSolid}
+use Rattle.gx_convex.proofs.Truth.{Decides-itself, Decides-is_in, Decides-is_inside}
+use Rattle.gx_convex.proofs.Strict.{strict}
+use Rattle.gx_convex.proofs.FaceFacts.{faces_bound, implied}
+use Rattle.gx_convex.proofs.Extents.{low_below, high_above}
 use borrow.Author.Differences.{ints}
 
 -- a plane's half-space that has every point in the solid

@@ -13,9 +13,9 @@ use Rattle.gx_algebra.proofs.Identity.{identity, vector3}
 use Rattle.gx_plane.proofs.Candidates.{normal_term}
 use Rattle.gx_plane.specs.Plane.{normal_of}
 use Rattle.gx_plane.specs.Between.{pairs_of, triples_of}
-use Rattle.gx_shapes.specs.Points.{is_coplanar, are_coplanar, distinct}
+use Rattle.gx_convex.specs.Points.{is_coplanar, are_coplanar, distinct}
 use Rattle.gx_algebra.proofs.Lists.{All-append_parts, All-from_map}
-use Rattle.gx_shapes.proofs.Distinct.{All-distinct, All-from_distinct}
+use Rattle.gx_convex.proofs.Distinct.{All-distinct, All-from_distinct}
 use borrow.Author.Differences.{ints}
 
 -- six times the volume of a tetrahedron, with a sign

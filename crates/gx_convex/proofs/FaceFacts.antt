@@ -15,12 +15,13 @@ use Rattle.gx_plane.specs.Plane.{divisor_of, is_zero, side_of, Supports, flipped
 use Rattle.gx_plane.specs.Between.{triples_of, both_ways, candidates}
 use Rattle.gx_plane.proofs.Divisors.{divisor_of-same, not_zero-divisor_of, IsPrimitive-primitive}
 use Rattle.gx_plane.proofs.PlaneFacts.{side_of-flipped, plane_through_some}
-use Rattle.gx_shapes.specs.Points.{is_same, are_coplanar}
-use Rattle.gx_shapes.proofs.Distinct.{Decides-is_same, All-distinct_by, All-from_distinct_by}
-use Rattle.gx_shapes.specs.Hull.{IsAtMost, IsBound}
-use Rattle.gx_hull.specs.Hull.{supports, outward, is_same_plane, faces_of}
-use Rattle.gx_hull.proofs.Truth.{Decides-int_le}
-use Rattle.gx_hull.proofs.Supporting.{IsBroken, broken, not_all_on}
+use Rattle.gx_convex.specs.Points.{is_same, are_coplanar}
+use Rattle.gx_convex.proofs.Distinct.{Decides-is_same, All-distinct_by, All-from_distinct_by}
+use Rattle.gx_convex.specs.Hull.{IsAtMost, IsBound}
+use Rattle.gx_plane.specs.Plane.{supports}
+use Rattle.gx_convex.specs.Faces.{is_same_plane, faces_of}
+use Rattle.gx_convex.proofs.Truth.{Decides-int_le}
+use Rattle.gx_convex.proofs.Supporting.{IsBroken, broken, not_all_on}
 use borrow.Author.Differences.{ints}
 
 -- ---- the test of support

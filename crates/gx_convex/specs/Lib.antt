@@ -1,0 +1,5 @@
+pub mod Extent
+pub mod Faces
+pub mod Hull
+pub mod Laws
+pub mod Points
