@@ -21,7 +21,7 @@ use Rattle.gx_convex.specs.Points.{is_same, are_coplanar}
 use Rattle.gx_convex.specs.Faces.{is_same_plane, faces_of}
 use Rattle.gx_convex.specs.Hull.{IsAtMost, IsBound}
 use Rattle.gx_convex.proofs.Distinct.{Decides-is_same, All-distinct_by, All-from_distinct_by}
-use Rattle.gx_convex.proofs.Truth.{Decides-int_le, Decides-supports}
+use Rattle.gx_plane.proofs.PlaneFacts.{Decides-int_le, Decides-supports}
 use Rattle.gx_convex.proofs.Supporting.{broken_by, dot4-within, dot4-broken_by, Spans-within}
 use borrow.Author.Differences.{ints}
 

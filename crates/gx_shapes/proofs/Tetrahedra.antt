@@ -20,7 +20,7 @@ use Rattle.gx_convex.proofs.Bounds.{All-is_in, not_is_zero}
 use Rattle.gx_plane.proofs.Candidates.{normal_term}
 use Rattle.gx_convex.proofs.Coplanar.{volume, volume_term, volume_swap_third, AreInPlane, Decides-triples}
 use Rattle.gx_algebra.proofs.Lists.{All-four}
-use Rattle.gx_convex.proofs.Truth.{Decides-supports}
+use Rattle.gx_plane.proofs.PlaneFacts.{Decides-supports}
 use borrow.Author.Differences.{ints}
 
 abbrev plane_of : V3 → V3 → V3 → HalfSpace
