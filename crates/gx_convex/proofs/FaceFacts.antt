@@ -1,28 +1,25 @@
 -- The faces of points that aren't coplanar bound the points, and imply each half-space that does.
 use Rattle.std.proofs.Common.{◌≡◌, Bool, true, false, ◌&&◌, cond, Option, Some, None, List, [], ◌∷◌, ◌++◌, flat_map, filter, map, All, ℤ, pos, ◌-ℤ◌, ◌*ℤ◌, ◌≤ℤ◌, ◌<ℤ◌, int_le, unsigned_abs, refl, sym, ap, ◌∙◌, subst, arith}
-use Rattle.std.specs.Prelude.{Contains}
 use Rattle.std.specs.Ordering.{int_eq}
 use Rattle.std.specs.Bool.{Decides}
 use Rattle.std.proofs.lemmas.Bool.Decides.{Decides-int_eq, Decides-and, Decides-like}
 use Rattle.std.proofs.lemmas.Int.{by_lt_z}
-use Rattle.std.proofs.lemmas.List.{append-nil}
-use Rattle.std.proofs.lemmas.List.Elements.{All-nil, All-cons, All-head, All-tail, All-append, All-map, All-weaker, All-contains}
+use Rattle.std.proofs.lemmas.List.Elements.{All-nil, All-cons, All-head, All-tail, All-append, All-weaker, All-contains}
 use Rattle.std.proofs.lemmas.List.Sums.{AllPass-from_list_all}
 use Rattle.gx_num.specs.declared.vector.V3.{V3}
 use Rattle.gx_num.specs.Space.{HalfSpace, is_in, normal_dot}
-use Rattle.gx_num.specs.Vector4.{Vec4, dot4}
-use Rattle.gx_plane.specs.Laws.{Spans, IsBeyond}
+use Rattle.gx_num.specs.Vector4.{Vec4}
 use Rattle.gx_plane.specs.Plane.{divisor_of, is_zero, side_of, supports, flipped, normal_of, plane_through}
-use Rattle.gx_plane.specs.Between.{is_between, triples_of, both_ways, candidates}
+use Rattle.gx_plane.specs.Between.{triples_of, both_ways, candidates}
 use Rattle.gx_plane.proofs.Divisors.{divisor_of-opposite, not_zero-divisor_of, IsPrimitive-primitive}
 use Rattle.gx_plane.proofs.PlaneFacts.{plane_through_some}
-use Rattle.gx_plane.proofs.Complete.{within, lifted, sides, IsTilted, tilted_candidate}
+use Rattle.gx_plane.proofs.Complete.{tilted_supporting}
 use Rattle.gx_convex.specs.Points.{is_same, are_coplanar}
 use Rattle.gx_convex.specs.Faces.{is_same_plane, faces_of}
 use Rattle.gx_convex.specs.Hull.{IsAtMost, IsBound}
 use Rattle.gx_convex.proofs.Distinct.{Decides-is_same, All-distinct_by, All-from_distinct_by}
 use Rattle.gx_plane.proofs.PlaneFacts.{Decides-int_le, Decides-supports}
-use Rattle.gx_convex.proofs.Supporting.{broken_by, dot4-within, dot4-broken_by, Spans-within}
+use Rattle.gx_convex.proofs.Spanning.{broken_by, dot4-broken_by, Spans-within}
 use borrow.Author.Differences.{ints}
 
 -- ---- each plane once
@@ -92,23 +89,9 @@ implied vertices solid h s p inside = by_lt_z (h.e *ℤ p.w) (normal_dot h p) (�
         (All-from_distinct_by is_same_plane is_same_plane-same (λ k. int_le (normal_dot k p) (k.e *ℤ p.w) ≡ true) [] (filter (λ k. supports k vertices) (candidates vertices)) (All-nil (λ k. int_le (normal_dot k p) (k.e *ℤ p.w) ≡ true))
         (AllPass-from_list_all (λ k. int_le (normal_dot k p) (k.e *ℤ p.w)) (faces_of vertices) inside))
 
-    within_is : sides vertices [] ≡ map within vertices
-    within_is = append-nil (map within vertices)
-
-    is : (h.e *ℤ p.w) <ℤ normal_dot h p → IsBeyond (map within vertices) (broken_by p) (lifted h)
-    is lt = record {
-      above = All-map (λ m. pos 0 ≤ℤ dot4 m (lifted h)) within vertices (All-weaker (λ x. side_of h x ≤ℤ pos 0) (λ x. pos 0 ≤ℤ dot4 (within x) (lifted h)) (λ x k. omega (arith, ints, k, dot4-within h x)) vertices ((Decides-supports h vertices).0 s));
-      beyond = omega (arith, ints, lt, dot4-broken_by h p);
-    }
-
-    both : (a b : Bool) → (a && b) ≡ true → a ≡ true
-    both true b e = refl
-    both false b e = e
-
     no : (h.e *ℤ p.w) <ℤ normal_dot h p → ⊥
     no lt =
-        let t = tilted_candidate vertices [] h (broken_by p) (subst Spans (sym within_is) (Spans-within vertices solid)) (subst (λ (ms : List Vec4). IsBeyond ms (broken_by p) (lifted h)) (sym within_is) (is lt)) in
-        let k = t.plane in
-        let listed : Contains (candidates vertices) k = subst (λ (ps : List V3). Contains (candidates ps) k) (append-nil vertices) t.listed in
-        let holds = All-contains (λ k. supports k vertices ≡ true → int_le (normal_dot k p) (k.e *ℤ p.w) ≡ true) (candidates vertices) k hold listed (both (supports k vertices) (supports (flipped k) []) t.between) in
-        omega (arith, ints, t.beyond, dot4-broken_by k p, (Decides-int_le (normal_dot k p) (k.e *ℤ p.w)).0 holds)
+        let t = tilted_supporting vertices h (broken_by p) (Spans-within vertices solid) s (omega (arith, ints, lt, dot4-broken_by h p)) in
+        let k = t.0 in
+        let holds = All-contains (λ k. supports k vertices ≡ true → int_le (normal_dot k p) (k.e *ℤ p.w) ≡ true) (candidates vertices) k hold t.1.candidate t.1.supporting in
+        omega (arith, ints, t.1.beyond, dot4-broken_by k p, (Decides-int_le (normal_dot k p) (k.e *ℤ p.w)).0 holds)

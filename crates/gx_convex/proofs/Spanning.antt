@@ -1,27 +1,21 @@
 -- Half-spaces and points as vectors of four numbers: only 0 is orthogonal to points that aren't coplanar.
-use Rattle.std.proofs.Common.{get_or, ◌≡◌, ◌⊎◌, inl, inr, false, Option, Some, None, List, [], ◌∷◌, map, All, Contains, ℤ, pos, ◌-ℤ◌, ◌*ℤ◌, ◌≤ℤ◌, ◌<ℤ◌, refl, sym, ap, ◌∙◌, subst, arith}
+use Rattle.std.proofs.Common.{get_or, ◌≡◌, false, List, [], ◌∷◌, map, All, ℤ, pos, ◌-ℤ◌, ◌*ℤ◌, ◌<ℤ◌, ap, ◌∙◌, arith}
 use Rattle.std.proofs.lemmas.Bool.Decides.{not_from_Decides}
 use Rattle.std.proofs.lemmas.Int.{by_lt_z}
-use Rattle.std.proofs.lemmas.List.Elements.{All-weaker, All-map}
 use Rattle.gx_num.specs.declared.vector.V3.{V3}
-use Rattle.gx_num.specs.Vector.{dot_of, times3}
 use Rattle.gx_num.specs.Space.{HalfSpace, normal_dot}
-use Rattle.gx_num.specs.Vector4.{Vec4, origin, dot4, times4, opposite4, det4, minors}
+use Rattle.gx_num.specs.Vector4.{Vec4, dot4, det4, minors}
 use Rattle.gx_algebra.proofs.Terms as term
-use Rattle.gx_algebra.proofs.Terms.{Term3, Term4, ◌≣◌, ◌≣⁴◌, ◌⊕◌, ◌⊖◌, ◌⊗◌, none}
-use Rattle.gx_algebra.proofs.Identity.{identity, identity4, number, vector3, vector4, half_space}
-use Rattle.gx_algebra.proofs.Identities.{dot4-times4, dot4-origin, cramer}
+use Rattle.gx_algebra.proofs.Terms.{◌≣◌, ◌⊖◌, ◌⊗◌, none}
+use Rattle.gx_algebra.proofs.Identity.{identity, vector3, vector4, half_space}
+use Rattle.gx_algebra.proofs.Identities.{cramer}
 use Rattle.gx_algebra.proofs.Laws.{mul_comm, mul-zero}
-use Rattle.gx_algebra.proofs.Order.{nonneg_of_mul, pos_of_mul, zero_of_mul}
-use Rattle.gx_plane.specs.Laws.{Spans, IsBeyond, IsFromThree}
-use Rattle.gx_plane.specs.Plane.{side_of}
-use Rattle.gx_algebra.proofs.Lists.{Contains-unmap, All-from_map}
+use Rattle.gx_algebra.proofs.Order.{zero_of_mul}
+use Rattle.gx_plane.specs.Laws.{Spans}
+use Rattle.gx_algebra.proofs.Lists.{All-from_map}
 use Rattle.gx_plane.proofs.Complete.{within_term, lifted, within}
 use Rattle.gx_plane.proofs.Cones.{dot4-self_zero}
-use Rattle.gx_plane.proofs.Tilts.{tilted}
-use Rattle.gx_plane.proofs.PlaneFacts.{times3-primitive, plane_through_some, plane_through_none}
 use Rattle.gx_convex.specs.Points.{are_coplanar}
-use Rattle.gx_plane.proofs.Candidates.{normal_term}
 use Rattle.gx_convex.proofs.Coplanar.{IsCoplanar, Decides-are_coplanar, volume, volume_term}
 use borrow.Author.Differences.{ints}
 
@@ -29,13 +23,9 @@ use borrow.Author.Differences.{ints}
 abbrev pub broken_by : Vec4 → Vec4
 broken_by p = record { x = p.x; y = p.y; z = p.z; w = pos 0 -ℤ p.w }
 
-dot4-within : (h : HalfSpace) (x : V3) → dot4 (within x) (lifted h) ≡ pos 0 -ℤ side_of h x
-dot4-within = identity (half_space ∷ vector3 ∷ []) (λ h x. term.dot4 (within_term x) (record { x = h.n.x; y = h.n.y; z = h.n.z; w = h.e }) ≣ none ⊖ (term.dot_of h.n x ⊖ h.e)) tt
-
-dot4-broken_by : (h : HalfSpace) (p : Vec4) → dot4 (broken_by p) (lifted h) ≡ normal_dot h p -ℤ h.e *ℤ p.w
+pub dot4-broken_by : (h : HalfSpace) (p : Vec4) → dot4 (broken_by p) (lifted h) ≡ normal_dot h p -ℤ h.e *ℤ p.w
 dot4-broken_by = identity (half_space ∷ vector4 ∷ []) (λ h p. term.dot4 (record { x = p.x; y = p.y; z = p.z; w = none ⊖ p.w }) (record { x = h.n.x; y = h.n.y; z = h.n.z; w = h.e }) ≣ term.normal_dot h p ⊖ h.e ⊗ p.w) tt
 
--- ---- only 0 is orthogonal to points that are not flat
 volume_is : (a b c p : V3) → dot4 (within p) (minors (within a) (within b) (within c)) ≡ pos 0 -ℤ volume a b c p
 volume_is = identity (vector3 ∷ vector3 ∷ vector3 ∷ vector3 ∷ []) (λ a b c p. term.dot4 (within_term p) (term.minors (within_term a) (within_term b) (within_term c)) ≣ none ⊖ volume_term a b c p) tt
 
@@ -48,7 +38,7 @@ volume_zero a b c p v lt av bv cv pv =
     times : (k : ℤ) {z : ℤ} → z ≡ pos 0 → k *ℤ z ≡ pos 0
     times k e = ap (λ (t : ℤ). k *ℤ t) e ∙ mul-zero k
 
-Spans-within : (vertices : List V3) → are_coplanar vertices ≡ false → Spans (map within vertices)
+pub Spans-within : (vertices : List V3) → are_coplanar vertices ≡ false → Spans (map within vertices)
 Spans-within vertices e v h =
     by_lt_z (pos 0) (dot4 v v) (λ lt. absurd (not_from_Decides (are_coplanar vertices) (Decides-are_coplanar vertices) e (coplanar lt))) (dot4-self_zero v)
   where
