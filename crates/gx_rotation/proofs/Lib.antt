@@ -1,7 +1,5 @@
 mod Algebra
-mod Axes
-mod Faithful
 mod Each
+mod Placed
 mod Tables
 mod Turns
-mod Units

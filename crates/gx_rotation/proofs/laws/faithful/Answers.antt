@@ -1,4 +1,4 @@
-use Rattle.gx_rotation.proofs.Faithful.{different, axes, proper}
+use Rattle.gx_rotation.proofs.Tables.{different, axes, proper}
 use Rattle.gx_rotation.proofs.laws.faithful.Goals as goal
 
 pub returns : goal.returns
