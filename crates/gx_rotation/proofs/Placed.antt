@@ -1,5 +1,5 @@
 -- A matrix that takes axes to axes is a rotation's or a mirror's, and its first two rows tell the rotation.
-use Rattle.std.proofs.Common.{◌≡◌, ℕ, ◌+◌, ◌<◌, ◌≤◌, ◌&&◌, Bool, true, false, ℤ, pos, negsuc, ◌-ℤ◌, unsigned_abs, Result, Ok, Err, refl, if◌then◌else◌, arith, eqb-true, subst, sym, ap, ◌∙◌}
+use Rattle.std.proofs.Common.{◌≡◌, ℕ, ◌+◌, ◌<◌, Bool, true, false, pos, unsigned_abs, Result, Ok, Err, refl, if◌then◌else◌, arith, eqb-true, subst, sym, ◌∙◌}
 use Rattle.std.proofs.lemmas.Int.{ints}
 use Rattle.std.specs.Int.{from_bool}
 use Rattle.std.specs.Int.RustNames.{int_lt}
@@ -11,6 +11,7 @@ use Rattle.gx_rotation.specs.Matrix.{Matrix, image}
 use Rattle.gx_rotation.specs.Rotation.{matrix_of, number_of, signed_rows, unit_vector, axis_of, is_negative, is_unit, takes_axes_to_axes}
 use Rattle.gx_rotation.specs.Given.{checked}
 use Rattle.gx_rotation.proofs.Each.{each_triple, values}
+use Rattle.gx_rotation.proofs.Tables.{vector_is}
 
 pub axis_of_below : (v : V3) → axis_of v < 3
 axis_of_below v = grind arith
@@ -22,29 +23,13 @@ from_bool_below false = omega arith
 abbrev unit_of : V3 → V3
 unit_of v = unit_vector (axis_of v) (is_negative v)
 
-abbrev small : ℕ → ℕ → ℕ → V3
-small a b c = record { x = pos a -ℤ pos 1; y = pos b -ℤ pos 1; z = pos c -ℤ pos 1 }
-
-abbrev where_unit : V3 → V3 → V3
-where_unit v w = if is_unit v then w else small 1 1 1
-
-small_is : (a b c : ℕ) → a < 3 → b < 3 → c < 3 → where_unit (small a b c) (small a b c) ≡ where_unit (small a b c) (unit_of (small a b c))
-small_is = each_triple (λ a b c. where_unit (small a b c) (small a b c)) (λ a b c. where_unit (small a b c) (unit_of (small a b c))) 3 refl
-
-shifted : (x : ℤ) → unsigned_abs x ≤ 1 → (a : ℕ) × (a < 3) × (x ≡ pos a -ℤ pos 1)
-shifted (pos n) h = (n + 1, omega arith, omega (arith, ints))
-shifted (negsuc n) h = (0, omega arith, omega (arith, ints))
-
 unit_is : (v : V3) → is_unit v ≡ true → v ≡ unit_of v
 unit_is v h =
     let sum : unsigned_abs v.x + unsigned_abs v.y + unsigned_abs v.z ≡ 1 = eqb-true _ _ h in
-    let x = shifted v.x (omega arith) in
-    let y = shifted v.y (omega arith) in
-    let z = shifted v.z (omega arith) in
-    let e : v ≡ small x.0 y.0 z.0 = rw (← x.2, ← y.2, ← z.2) refl in
-    let P : V3 → Type 0 = λ w. where_unit w w ≡ where_unit w (unit_of w) in
-    let found : where_unit v v ≡ where_unit v (unit_of v) = subst P (sym e) (small_is x.0 y.0 z.0 x.1 y.1 z.1) in
-    rw h at found
+    let x : (unit_of v).x ≡ v.x = grind (arith, ints) in
+    let y : (unit_of v).y ≡ v.y = grind (arith, ints) in
+    let z : (unit_of v).z ≡ v.z = grind (arith, ints) in
+    sym (vector_is _ _ _ v x y z)
 
 -- the rotation with the first two rows has the third, or its opposite
 abbrev placed : Matrix → Result Matrix RotationFault

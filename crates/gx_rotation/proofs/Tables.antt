@@ -1,5 +1,5 @@
 -- What is computed of each number of a rotation.
-use Rattle.std.proofs.Common.{◌≡◌, ℕ, ◌/◌, ◌%◌, Bool, false, not, nat_eq, ◌<◌, [], refl, sym, ap, ◌∙◌, slice_index_or, ltb, true, pos, ℤ}
+use Rattle.std.proofs.Common.{◌≡◌, ℕ, ◌/◌, ◌%◌, false, not, nat_eq, ◌<◌, [], refl, sym, ap, ◌∙◌, slice_index_or, ltb, true, pos, ℤ}
 use Rattle.std.proofs.Math.Bool.{beq}
 use borrow.Author.Tests.{ltb-true}
 use Rattle.gx_num.specs.declared.vector.V3.{V3}

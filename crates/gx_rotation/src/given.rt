@@ -26,9 +26,21 @@ pub fn from_angles6(q: [Option<u8>; 6]) -> Result<Rotation, RotationFault>
     let y = towards(&q, 2)?;
     let z = towards(&q, 4)?;
     from_rows(
-        V3 { x: x.x, y: y.x, z: z.x },
-        V3 { x: x.y, y: y.y, z: z.y },
-        V3 { x: x.z, y: y.z, z: z.z },
+        V3 {
+            x: x.x,
+            y: y.x,
+            z: z.x,
+        },
+        V3 {
+            x: x.y,
+            y: y.y,
+            z: z.y,
+        },
+        V3 {
+            x: x.z,
+            y: y.z,
+            z: z.z,
+        },
     )
 }
 

@@ -1,4 +1,4 @@
-use Rattle.std.proofs.Common.{rules, arith}
+use Rattle.std.proofs.Common.{arith}
 use Rattle.gx_rotation.specs.Rotation.{number_of-matrix_of}
 use Rattle.gx_rotation.proofs.rotation.RotationPartialEq.eq.Goals as goal
 
