@@ -1,5 +1,5 @@
 mod Algebra
 mod Each
-mod Placed
+mod Oriented
 mod Tables
 mod Turns

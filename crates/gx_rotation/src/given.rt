@@ -123,6 +123,7 @@ fn row(m: &[Option<i8>; 9], place: u8) -> Result<V3, RotationFault>
 }
 
 // The rotation whose matrix has these rows.
+#[tactic(auto, unfolding(crate::specs::Given::checked))]
 fn from_rows(x: V3, y: V3, z: V3) -> Result<Rotation, RotationFault>
     requires x { IsWithin 128 x }
     requires y { IsWithin 128 y }
@@ -141,7 +142,7 @@ fn from_rows(x: V3, y: V3, z: V3) -> Result<Rotation, RotationFault>
 }
 
 // The number of the rotation with the first two rows, whose third row is along the axis of z.
-#[tactic(auto, using(crate::proofs::Placed::axis_of_below, crate::proofs::Placed::from_bool_below), unfolding(crate::specs::Rotation::number_of))]
+#[tactic(auto, using(crate::proofs::Oriented::axis_of_below, crate::proofs::Oriented::from_bool_below), unfolding(crate::specs::Rotation::number_of))]
 fn number(x: V3, y: V3, z: V3) -> u8
     ensures value { result ≡ number_of (record { x = x; y = y; z = z }) }
     ensures below { result < 24 }

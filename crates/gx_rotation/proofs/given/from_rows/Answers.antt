@@ -1,12 +1,8 @@
-use Rattle.std.proofs.Common.{◌≡◌, ◌∙◌, sym, true, rules}
+use Rattle.std.proofs.Common.{◌≡◌, ◌∙◌, true, rules}
 use Rattle.gx_rotation.specs.Matrix.{Matrix}
 use Rattle.gx_rotation.specs.Rotation.{takes_axes_to_axes}
-use Rattle.gx_rotation.proofs.Placed.{checked-where, checked-unless}
+use Rattle.gx_rotation.proofs.Oriented.{checked-where}
 use Rattle.gx_rotation.proofs.given.from_rows.Goals as goal
-
-pub returns-then-not-take_axes_to_axes : goal.returns-then-not-take_axes_to_axes
-returns-then-not-take_axes_to_axes c =
-    sym (checked-unless _ (sym c.take_axes_to_axes.ensures ∙ c.if-not-take_axes_to_axes.true))
 
 pub returns-then-apply-lt0 : goal.returns-then-apply-lt0
 returns-then-apply-lt0 c =

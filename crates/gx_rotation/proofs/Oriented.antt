@@ -32,14 +32,14 @@ unit_is v h =
     sym (vector_is _ _ _ v x y z)
 
 -- the rotation with the first two rows has the third, or its opposite
-abbrev placed : Matrix → Result Matrix RotationFault
-placed m =
+abbrev oriented : Matrix → Result Matrix RotationFault
+oriented m =
     let r = matrix_of (number_of m) in
     if takes_axes_to_axes m
     then (if int_lt (dot_of r.z m.z) (pos 0) then Err Mirror else Ok r)
     else Err (NotAxis 0)
 
-computed : (x y z : Bool) → values (λ a. values (λ b. values (λ c. checked (signed_rows x y z a b c)) 3) 3) 3 ≡ values (λ a. values (λ b. values (λ c. placed (signed_rows x y z a b c)) 3) 3) 3
+computed : (x y z : Bool) → values (λ a. values (λ b. values (λ c. checked (signed_rows x y z a b c)) 3) 3) 3 ≡ values (λ a. values (λ b. values (λ c. oriented (signed_rows x y z a b c)) 3) 3) 3
 unfolding matrix_of number_of checked
 computed true true true = refl
 computed true true false = refl
@@ -56,21 +56,17 @@ units m h = grind arith
 by_rows : (m : Matrix) (x y z : V3) → m.x ≡ x → m.y ≡ y → m.z ≡ z → m ≡ record { x = x; y = y; z = z }
 by_rows m x y z ex ey ez = rw (← ex, ← ey, ← ez) refl
 
-checked-placed : (m : Matrix) → takes_axes_to_axes m ≡ true → checked m ≡ placed m
-checked-placed m h =
+checked-oriented : (m : Matrix) → takes_axes_to_axes m ≡ true → checked m ≡ oriented m
+checked-oriented m h =
     let u = units m h in
     let signed : ℕ → ℕ → ℕ → Matrix = signed_rows (is_negative m.x) (is_negative m.y) (is_negative m.z) in
     let e : m ≡ signed (axis_of m.x) (axis_of m.y) (axis_of m.z) =
     by_rows m (unit_of m.x) (unit_of m.y) (unit_of m.z) (unit_is m.x u.0) (unit_is m.y u.1) (unit_is m.z u.2) in
-    let P : Matrix → Type 0 = λ m. checked m ≡ placed m in
+    let P : Matrix → Type 0 = λ m. checked m ≡ oriented m in
     subst P (sym e)
-    (each_triple (λ a b c. checked (signed a b c)) (λ a b c. placed (signed a b c)) 3
+    (each_triple (λ a b c. checked (signed a b c)) (λ a b c. oriented (signed a b c)) 3
     (computed (is_negative m.x) (is_negative m.y) (is_negative m.z))
     (axis_of m.x) (axis_of m.y) (axis_of m.z) (axis_of_below m.x) (axis_of_below m.y) (axis_of_below m.z))
 
 pub checked-where : (m r : Matrix) (v : V3) → takes_axes_to_axes m ≡ true → r ≡ matrix_of (number_of m) → v ≡ image r m.z → checked m ≡ (if int_lt v.z (pos 0) then Err Mirror else Ok r)
-checked-where m r v h is turned = checked-placed m h ∙ rw (h, turned, is) refl
-
-pub checked-unless : (m : Matrix) → takes_axes_to_axes m ≡ false → checked m ≡ Err (NotAxis 0)
-unfolding checked
-checked-unless m h = rw h refl
+checked-where m r v h is turned = checked-oriented m h ∙ rw (h, turned, is) refl
