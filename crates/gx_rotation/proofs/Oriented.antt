@@ -11,7 +11,7 @@ use Rattle.gx_rotation.specs.Matrix.{Matrix, image}
 use Rattle.gx_rotation.specs.Rotation.{matrix_of, number_of, signed_rows, unit_vector, axis_of, is_negative, is_unit, takes_axes_to_axes}
 use Rattle.gx_rotation.specs.Given.{checked}
 use Rattle.gx_rotation.proofs.Each.{each_triple, values}
-use Rattle.gx_rotation.proofs.Tables.{vector_is}
+use Rattle.gx_rotation.proofs.Algebra.{vector_is}
 
 pub axis_of_below : (v : V3) → axis_of v < 3
 axis_of_below v = grind arith

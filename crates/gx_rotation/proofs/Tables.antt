@@ -1,8 +1,7 @@
 -- What is computed of each number of a rotation.
-use Rattle.std.proofs.Common.{◌≡◌, ℕ, ◌/◌, ◌%◌, false, not, nat_eq, ◌<◌, [], refl, sym, ap, ◌∙◌, slice_index_or, ltb, true, pos, ℤ}
+use Rattle.std.proofs.Common.{◌≡◌, ℕ, ◌/◌, ◌%◌, false, not, nat_eq, ◌<◌, [], refl, sym, ap, ◌∙◌, slice_index_or, ltb, true, pos}
 use Rattle.std.proofs.Math.Bool.{beq}
 use borrow.Author.Tests.{ltb-true}
-use Rattle.gx_num.specs.declared.vector.V3.{V3}
 use Rattle.gx_rotation.specs.declared.rotation.TheConstants.{PRODUCTS, INVERSES, PERMUTATIONS}
 use Rattle.gx_rotation.specs.Matrix.{Matrix, product, transpose, identity, determinant}
 use Rattle.gx_rotation.specs.Rotation.{matrix_of, number_of, number_of-matrix_of, signed_rows, takes_axes_to_axes}
@@ -62,6 +61,3 @@ read k =
 pub matrix_of-read : (k : ℕ) → k < 24 → matrix_of k ≡ read k
 unfolding matrix_of
 matrix_of-read = each matrix_of read 24 refl
-
-pub vector_is : (x y z : ℤ) (v : V3) → x ≡ v.x → y ≡ v.y → z ≡ v.z → record { x = x; y = y; z = z } ≡ v
-vector_is x y z v ex ey ez = rw (ex, ey, ez) refl

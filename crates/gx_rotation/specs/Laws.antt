@@ -18,8 +18,8 @@ pub record IsAction : Type 0 where
   pub composes : (a b : Matrix) (v : V3) → image (product a b) v ≡ image a (image b v)
   pub rests : (v : V3) → image identity v ≡ v
 
--- the matrices are 24 different ones, take axes to axes and have determinant 1
-pub record IsFaithful : Type 0 where
+-- the numbers have different matrices, which take axes to axes and have determinant 1
+pub record AreRotations : Type 0 where
   pub different : (a b : ℕ) → a < 24 → b < 24 → matrix_of a ≡ matrix_of b → a ≡ b
   pub axes : (k : ℕ) → k < 24 → takes_axes_to_axes (matrix_of k) ≡ true
   pub proper : (k : ℕ) → k < 24 → determinant (matrix_of k) ≡ pos 1

@@ -67,8 +67,7 @@ fn about(axis: u8, q: u8) -> Rotation
 // The direction of the theta at the place and the phi after it.
 fn towards(q: &[Option<u8>; 6], place: u8) -> Result<V3, RotationFault>
     requires { place ≤ 4 }
-    ensures direction { result ≡ direction_at q.now place }
-    ensures bound { IfOk result (IsWithin 128) }
+    ensures { result ≡ direction_at q.now place }
 {
     let theta = q[place as usize].ok_or(RotationFault::NotAxis(place))?;
     if sine(theta) == 0 {
@@ -79,8 +78,7 @@ fn towards(q: &[Option<u8>; 6], place: u8) -> Result<V3, RotationFault>
 }
 
 fn direction(theta: u8, phi: u8) -> V3
-    ensures value { result ≡ spec.direction theta phi }
-    ensures bound { IsWithin 128 result }
+    ensures { result ≡ spec.direction theta phi }
 {
     V3 {
         x: sine(theta) * cosine(phi),
@@ -108,8 +106,7 @@ fn cosine(q: u8) -> i64
 // The three values from the place on.
 fn row(m: &[Option<i8>; 9], place: u8) -> Result<V3, RotationFault>
     requires { place ≤ 6 }
-    ensures row { result ≡ row_at m.now place }
-    ensures bound { IfOk result (IsWithin 128) }
+    ensures { result ≡ row_at m.now place }
 {
     let i = place as usize;
     let x = m[i].ok_or(RotationFault::NotAxis(place))?;
@@ -125,9 +122,6 @@ fn row(m: &[Option<i8>; 9], place: u8) -> Result<V3, RotationFault>
 // The rotation whose matrix has these rows.
 #[tactic(auto, unfolding(crate::specs::Given::checked))]
 fn from_rows(x: V3, y: V3, z: V3) -> Result<Rotation, RotationFault>
-    requires x { IsWithin 128 x }
-    requires y { IsWithin 128 y }
-    requires z { IsWithin 128 z }
     ensures { result ≡ checked (record { x = x; y = y; z = z }) }
 {
     if !take_axes_to_axes(x, y, z) {
@@ -155,9 +149,6 @@ fn number(x: V3, y: V3, z: V3) -> u8
 
 // The matrix with these rows has one entry, 1 or -1, in each row and in each column.
 fn take_axes_to_axes(x: V3, y: V3, z: V3) -> bool
-    requires x { IsWithin 128 x }
-    requires y { IsWithin 128 y }
-    requires z { IsWithin 128 z }
     ensures { result ≡ takes_axes_to_axes (record { x = x; y = y; z = z }) }
 {
     is_unit(x)
@@ -169,10 +160,12 @@ fn take_axes_to_axes(x: V3, y: V3, z: V3) -> bool
 }
 
 fn is_unit(v: V3) -> bool
-    requires { IsWithin 128 v }
     ensures { result ≡ rotations.is_unit v }
 {
-    v.x.unsigned_abs() + v.y.unsigned_abs() + v.z.unsigned_abs() == 1
+    matches!(
+        (v.x, v.y, v.z),
+        (1 | -1, 0, 0) | (0, 1 | -1, 0) | (0, 0, 1 | -1)
+    )
 }
 
 // The axis of a unit vector.

@@ -57,8 +57,7 @@ const PERMUTATIONS: [([u8; 3], bool); 6] = [
 impl Model for Rotation {
     ghost use Rattle.std.specs.Prelude.{◌<◌};
     ghost use Rattle.gx_rotation.specs.Matrix.{Matrix};
-    ghost use Rattle.gx_rotation.specs.Rotation.{matrix_of, number_of};
-    ghost use Rattle.gx_rotation.specs.Rotation.{number_of-matrix_of};
+    ghost use Rattle.gx_rotation.specs.Rotation.{matrix_of, number_of, number_of-matrix_of};
 
     ghost Value = { Matrix };
 

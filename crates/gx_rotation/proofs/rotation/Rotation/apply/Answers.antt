@@ -1,5 +1,6 @@
 use Rattle.std.proofs.Common.{rules, arith}
-use Rattle.gx_rotation.proofs.Tables.{column-below, matrix_of-read, vector_is}
+use Rattle.gx_rotation.proofs.Algebra.{vector_is}
+use Rattle.gx_rotation.proofs.Tables.{column-below, matrix_of-read}
 use Rattle.gx_rotation.proofs.rotation.Rotation.apply.Goals as goal
 
 pub signed_component-requires-2-clause-axis : goal.signed_component-requires-2-clause-axis
