@@ -7,8 +7,8 @@ use Rattle.gx_rotation.specs.Rotation.{matrix_of, takes_axes_to_axes}
 -- the product of matrices is associative, the identity is number 0, and a rotation's transpose is its inverse
 pub record IsGroup : Type 0 where
   pub associative : (a b c : Matrix) → product (product a b) c ≡ product a (product b c)
-  pub from_left : (a : Matrix) → product identity a ≡ a
-  pub from_right : (a : Matrix) → product a identity ≡ a
+  pub identity_left : (a : Matrix) → product identity a ≡ a
+  pub identity_right : (a : Matrix) → product a identity ≡ a
   pub zero : matrix_of 0 ≡ identity
   pub inverse_left : (k : ℕ) → k < 24 → product (transpose (matrix_of k)) (matrix_of k) ≡ identity
   pub inverse_right : (k : ℕ) → k < 24 → product (matrix_of k) (transpose (matrix_of k)) ≡ identity

@@ -8,7 +8,7 @@ ghost use Rattle.gx_rotation.specs.Given.{checked, turn, direction_at, by_angles
 use crate::{Rotation, RotationFault};
 use gx_num::V3;
 
-/// The turn about x, then y, then z by these quarter turns.
+/// The turn about x, then y, then z by these quarter turns. `NotAxis` is at the first that is missing.
 pub fn from_angles3(q: [Option<u8>; 3]) -> Result<Rotation, RotationFault>
     ensures { result ≡ by_angles3 q }
 {
@@ -18,7 +18,9 @@ pub fn from_angles3(q: [Option<u8>; 3]) -> Result<Rotation, RotationFault>
     Ok(about(2, z).compose(about(1, y)).compose(about(0, x)))
 }
 
-/// The rotation that takes the axes to the directions of these angles, theta and phi for each, in quarter turns.
+/// The rotation that takes x, y and z to the directions of these angles, in quarter turns: theta, from z, and phi, about
+/// z from x, for each. `NotAxis` is at the first that is missing and counts, or at 0 where the directions are not along
+/// three axes; `Mirror` where they are left-handed.
 pub fn from_angles6(q: [Option<u8>; 6]) -> Result<Rotation, RotationFault>
     ensures { result ≡ by_angles6 q }
 {
@@ -44,7 +46,8 @@ pub fn from_angles6(q: [Option<u8>; 6]) -> Result<Rotation, RotationFault>
     )
 }
 
-/// The rotation of this matrix, by rows.
+/// The rotation of this matrix, by rows. `NotAxis` is at the first entry that is missing, or at 0 where the matrix does
+/// not take axes to axes; `Mirror` where its determinant is -1.
 pub fn from_matrix9(m: [Option<i8>; 9]) -> Result<Rotation, RotationFault>
     ensures { result ≡ by_matrix9 m }
 {
@@ -109,14 +112,10 @@ fn row(m: &[Option<i8>; 9], place: u8) -> Result<V3, RotationFault>
     ensures { result ≡ row_at m.now place }
 {
     let i = place as usize;
-    let x = m[i].ok_or(RotationFault::NotAxis(place))?;
-    let y = m[i + 1].ok_or(RotationFault::NotAxis(place + 1))?;
-    let z = m[i + 2].ok_or(RotationFault::NotAxis(place + 2))?;
-    Ok(V3 {
-        x: i64::from(x),
-        y: i64::from(y),
-        z: i64::from(z),
-    })
+    let x = i64::from(m[i].ok_or(RotationFault::NotAxis(place))?);
+    let y = i64::from(m[i + 1].ok_or(RotationFault::NotAxis(place + 1))?);
+    let z = i64::from(m[i + 2].ok_or(RotationFault::NotAxis(place + 2))?);
+    Ok(V3 { x, y, z })
 }
 
 // The rotation whose matrix has these rows.

@@ -8,8 +8,8 @@ pub returns : goal.returns
 unfolding matrix_of
 returns c = record {
   associative = product-product;
-  from_left = product-identity_left;
-  from_right = product-identity_right;
+  identity_left = product-identity_left;
+  identity_right = product-identity_right;
   zero = refl;
   inverse_left = product-transpose_left;
   inverse_right = product-transpose_right;
