@@ -3,7 +3,7 @@ ghost use Rattle.gx_num.specs.Vector.{IsWithin};
 ghost use Rattle.gx_plane.specs.Plane.{reach, normal_reach, offset_reach, plane_through};
 ghost use Rattle.gx_plane.specs.Between.{is_between, both_ways, candidates};
 
-use crate::plane::{bounds, normal, product, with_normal};
+use crate::plane::{bounds, normal, opposite, product, with_normal};
 use crate::{Plane, Triples};
 use gx_num::V3;
 
@@ -37,7 +37,7 @@ pub fn first_of_three(p: V3, q: V3, r: V3, a: &[V3], b: &[V3]) -> Option<Plane>
     if parts(normal, e, a, b) {
         return with_normal(normal, p);
     }
-    let opposite = normal.neg();
+    let opposite = opposite(normal);
     if parts(opposite, -e, a, b) {
         return with_normal(opposite, p);
     }
@@ -52,5 +52,5 @@ fn parts(n: V3, e: i128, a: &[V3], b: &[V3]) -> bool
     requires others_within { All (IsWithin reach) b.now }
     ensures { result ≡ is_between a.now b.now (record { n = n; e = e }) }
 {
-    bounds(n, e, a) && bounds(n.neg(), -e, b)
+    bounds(n, e, a) && bounds(opposite(n), -e, b)
 }

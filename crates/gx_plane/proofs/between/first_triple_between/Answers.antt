@@ -1,4 +1,4 @@
-use Rattle.std.proofs.Common.{ap, sym, ◌∙◌, ◌++◌, find, All}
+use Rattle.std.proofs.Common.{ap, sym, ◌∙◌, ◌++◌, find}
 use Rattle.std.proofs.lemmas.List.Elements.{All-append}
 use Rattle.gx_num.specs.Vector.{IsWithin}
 use Rattle.gx_plane.specs.Plane.{reach}
