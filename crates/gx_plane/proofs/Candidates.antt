@@ -11,7 +11,7 @@ use Rattle.gx_algebra.proofs.Identity.{identity, identity3, vector3}
 use Rattle.gx_algebra.proofs.Lists.{Contains-head, Contains-tail, Contains-cases, Contains-map, Contains-flat_map}
 use Rattle.gx_plane.specs.Plane.{flipped, normal_of, plane_with, plane_through}
 use Rattle.gx_plane.specs.Between.{pairs_of, triples_of, both_ways, candidates}
-use Rattle.gx_plane.proofs.PlaneFacts.{plane_with-point, plane_with-opposite}
+use Rattle.gx_plane.proofs.PlaneFacts.{plane_with-point, plane_with-opposite, flipped-flipped}
 use borrow.Author.Differences.{ints}
 
 -- ---- the points in another order
@@ -44,12 +44,6 @@ plane_through-twice p r = ap (λ (n : V3). plane_with n p) (nothing p r)
   where
     nothing : (p r : V3) → normal_of p p r ≡ record { x = pos 0; y = pos 0; z = pos 0 }
     nothing = identity3 (vector3 ∷ vector3 ∷ []) (λ p r. normal_term p p r ≣³ record { x = none; y = none; z = none }) tt
-
-pub flipped-flipped : (h : HalfSpace) → flipped (flipped h) ≡ h
-flipped-flipped h = λ i. record { n = record { x = again h.n.x i; y = again h.n.y i; z = again h.n.z i }; e = again h.e i }
-  where
-    again : (a : ℤ) → pos 0 -ℤ (pos 0 -ℤ a) ≡ a
-    again a = omega (arith, ints)
 
 -- ---- three points of a list
 pairs-either : (points : List V3) (q r : V3) → Contains points q → Contains points r → (q ≡ r) ⊎ (Contains (pairs_of points) (q, r) ⊎ Contains (pairs_of points) (r, q))

@@ -14,10 +14,10 @@ use Rattle.gx_algebra.proofs.Terms.{Term3, Term4, ◌≣◌, ◌≣⁴◌, ◌�
 use Rattle.gx_algebra.proofs.Identity.{identity, identity4, number, vector3, vector4, half_space}
 use Rattle.gx_algebra.proofs.Order.{nonneg_of_mul, pos_of_mul}
 use Rattle.gx_plane.specs.Laws.{IsAbove, Spans, IsBeyond, IsFromThree}
-use Rattle.gx_plane.specs.Plane.{divisor_of, primitive, side_of, supports, flipped, normal_of, plane_through}
+use Rattle.gx_plane.specs.Plane.{divisor_of, primitive, side_of, supports, flipped, normal_of, plane_through, plane_from}
 use Rattle.gx_plane.specs.Between.{is_between, candidates}
 use Rattle.gx_plane.proofs.ExtremeRays.{tilted}
-use Rattle.gx_plane.proofs.PlaneFacts.{plane_from, Decides-int_le, times3-primitive, side_of-flipped, plane_through_some, plane_through_none}
+use Rattle.gx_plane.proofs.PlaneFacts.{Decides-int_le, times3-primitive, side_of-flipped, plane_through_some, plane_through_none}
 use Rattle.gx_plane.proofs.Candidates.{normal_term, Contains-candidates}
 use borrow.Author.Differences.{ints}
 

@@ -1,7 +1,8 @@
 -- Which of the two senses of a plane is between two lists, by a normal that is not made primitive: the signs of sides are the same.
-use Rattle.std.proofs.Common.{◌≡◌, ℕ, ◌<◌, Bool, true, false, cond, ◌&&◌, Option, None, List, [], ◌∷◌, find, ℤ, pos, ◌-ℤ◌, ◌*ℤ◌, int_le, refl, sym, ap, ap₂, ◌∙◌, arith, true≢false}
+use Rattle.std.proofs.Common.{get_or, add-one, drop, length, not, ◌+◌, suc, ◌≡◌, ℕ, ◌<◌, Bool, true, false, cond, ◌&&◌, Option, None, List, [], ◌∷◌, find, ℤ, pos, ◌-ℤ◌, ◌*ℤ◌, int_le, refl, sym, ap, ap₂, ◌∙◌, arith, true≢false}
 use Rattle.std.specs.Option.{option_map}
 use Rattle.std.specs.List.{list_all}
+use Rattle.std.proofs.Math.Seq.{drop-cons}
 use Rattle.std.proofs.lemmas.Bool.Decides.{same_from_decides, Decides-like}
 use Rattle.gx_num.specs.declared.vector.V3.{V3}
 use Rattle.gx_num.specs.Vector.{dot_of, difference_of, opposite_of}
@@ -11,10 +12,10 @@ use Rattle.gx_algebra.proofs.Terms as term
 use Rattle.gx_algebra.proofs.Terms.{◌≣◌, ◌⊖◌}
 use Rattle.gx_algebra.proofs.Identity.{identity, vector3}
 use Rattle.gx_algebra.proofs.Order.{mul-sub, mul-le-left, le_of_mul-le-left}
-use Rattle.gx_plane.specs.Plane.{divisor_of, is_zero, side_of, supports, flipped, normal_of, plane_at, plane_with, plane_through}
+use Rattle.gx_plane.specs.Plane.{divisor_of, is_zero, side_of, supports, flipped, normal_of, plane_at, plane_with, plane_through, plane_from}
 use Rattle.gx_plane.specs.Between.{is_between, both_ways}
 use Rattle.gx_plane.proofs.Divisors.{divisor_of-opposite, divisor_of-pos}
-use Rattle.gx_plane.proofs.PlaneFacts.{plane_from, Decides-int_le, side_of-plane_at, side_of-flipped, plane_with-zero, plane_with-apart, plane_at-opposite, plane_with-opposite}
+use Rattle.gx_plane.proofs.PlaneFacts.{Decides-int_le, side_of-plane_at, side_of-flipped, plane_with-zero, plane_with-apart, plane_at-opposite, plane_from-opposite, flipped-flipped, plane_with-opposite}
 use borrow.Author.Differences.{ints}
 
 -- ---- multiples of sides
@@ -73,23 +74,40 @@ first_way a b n p = rw (plane_with-opposite n p) (go (is_zero n) refl)
         let lt = divisor_of-pos n e in
         rw (plane_with-apart n p e, is_between-plane_at a b n p lt, sym (opposite lt)) refl
 
-module _ (a b : List V3) (p q r n : V3) (is : n ≡ normal_of p q r) where
-  -- as the code goes: what it finds at the normal or its opposite, or nothing
-  ways : find (is_between a b) (both_ways (plane_through p q r)) ≡ cond (is_between a b (plane_from n p)) (plane_with n p) (cond (is_between a b (plane_from (opposite_of n) p)) (plane_with (opposite_of n) p) None)
-  ways = ap (λ (m : V3). find (is_between a b) (both_ways (plane_with m p))) (sym is) ∙ first_way a b n p
+-- as the code goes: by the senses in which a plane with a normal that is not made primitive is between
+pub found : (a b : List V3) (p q r : V3) (h : HalfSpace) (s t : Bool) → h ≡ plane_from (normal_of p q r) p
+    → (supports h a && supports (flipped h) b) ≡ s → (supports (flipped h) a && supports h b) ≡ t
+    → cond s (plane_with h.n p) (cond t (plane_with (opposite_of h.n) p) None) ≡ find (is_between a b) (both_ways (plane_through p q r))
+found a b p q r h s t is f g =
+    let n = normal_of p q r in
+    let first : is_between a b (plane_from n p) ≡ s = rw is at f in
+    let second : is_between a b (plane_from (opposite_of n) p) ≡ t =
+    ap (is_between a b) (plane_from-opposite n p) ∙ ap (λ (k : HalfSpace). supports (flipped (plane_from n p)) a && supports k b) (flipped-flipped (plane_from n p)) ∙ (rw is at g) in
+    rw is (sym (first_way a b n p ∙ ap₂ (λ (s t : Bool). cond s (plane_with n p) (cond t (plane_with (opposite_of n) p) None)) first second))
 
-  pub found_first : is_between a b (plane_from n p) ≡ true → plane_with n p ≡ find (is_between a b) (both_ways (plane_through p q r))
-  found_first e = sym (ways ∙ ap (λ (s : Bool). cond s (plane_with n p) (cond (is_between a b (plane_from (opposite_of n) p)) (plane_with (opposite_of n) p) None)) e)
+-- ---- the senses that are left, point by point
+-- one point more
+pub sense-step : (test : V3 → Bool) (points : List V3) (i : ℕ) (d : V3) (before now whole : Bool) → i < length points → now ≡ (before && test (get_or points i d)) → (before && list_all test (drop i points)) ≡ whole → (now && list_all test (drop (i + 1) points)) ≡ whole
+sense-step test points i d before now whole lt e inv =
+    rw add-one (go before (test (get_or points i d)) (list_all test (drop (suc i) points)) now e (ap (λ ps. before && list_all test ps) (sym (drop-cons points i d lt)) ∙ inv))
+  where
+    go : (s t r u : Bool) → u ≡ (s && t) → (s && (t && r)) ≡ whole → (u && r) ≡ whole
+    go true t r u e f = ap (λ b. b && r) e ∙ f
+    go false t r u e f = ap (λ b. b && r) e ∙ f
 
-  pub found_second : is_between a b (plane_from n p) ≡ false → is_between a b (plane_from (opposite_of n) p) ≡ true → plane_with (opposite_of n) p ≡ find (is_between a b) (both_ways (plane_through p q r))
-  found_second e f = sym (ways ∙ ap₂ (λ (s t : Bool). cond s (plane_with n p) (cond t (plane_with (opposite_of n) p) None)) e f)
+pub refuted : (f b : Bool) → (not f && not b) ≡ true → (f ≡ false) × (b ≡ false)
+refuted true b e = absurd (true≢false (sym e))
+refuted false true e = absurd (true≢false (sym e))
+refuted false false e = (refl, refl)
 
-  pub found_none : is_between a b (plane_from n p) ≡ false → is_between a b (plane_from (opposite_of n) p) ≡ false → None ≡ find (is_between a b) (both_ways (plane_through p q r))
-  found_none e f = sym (ways ∙ ap₂ (λ (s t : Bool). cond s (plane_with n p) (cond t (plane_with (opposite_of n) p) None)) e f)
+-- a refuted sense stays refuted
+pub sense-refuted : (f r whole : Bool) → f ≡ false → (f && r) ≡ whole → f ≡ whole
+sense-refuted f r whole e inv = e ∙ sym (ap (λ b. b && r) e) ∙ inv
 
--- a test that was made with equal numbers
-pub same-test : (a b : List V3) (n p m : V3) (e : ℤ) (s t : Bool) → s ≡ is_between a b (record { n = m; e = e }) → m ≡ n → e ≡ dot_of n p → s ≡ t → is_between a b (plane_from n p) ≡ t
-same-test a b n p m e s t is normal level found = sym (rw (normal, level) at is) ∙ found
+pub side-backward : (h : HalfSpace) (p : V3) → int_le (pos 0) (side_of h p) ≡ int_le (side_of (flipped h) p) (pos 0)
+side-backward h p =
+    same_from_decides (int_le (pos 0) (side_of h p)) (int_le (side_of (flipped h) p) (pos 0)) (Decides-int_le (pos 0) (side_of h p))
+    (Decides-like (int_le (side_of (flipped h) p) (pos 0)) (λ le. omega (arith, ints, le, side_of-flipped h p)) (λ le. omega (arith, ints, le, side_of-flipped h p)) (Decides-int_le (side_of (flipped h) p) (pos 0)))
 
 -- between a list and no point is what supports the list
 pub find-supports : (points : List V3) (hs : List HalfSpace) → find (is_between points []) hs ≡ find (λ h. supports h points) hs
@@ -98,8 +116,3 @@ find-supports points hs = ap (λ (test : HalfSpace → Bool). find test hs) (λ 
     alone : (s : Bool) → (s && true) ≡ s
     alone true = refl
     alone false = refl
-
--- ---- a conjunction, from a call for each part
-pub and_then : (r s a b : Bool) → r ≡ a → s ≡ b → r ≡ true → s ≡ (a && b)
-and_then r s true b e k t = k
-and_then r s false b e k t = absurd (true≢false (sym t ∙ e))

@@ -14,13 +14,9 @@ use Rattle.gx_algebra.proofs.Terms.{◌≣◌, ◌⊖◌, ◌⊗◌, none}
 use Rattle.gx_algebra.proofs.Identity.{identity, number, vector3}
 use Rattle.gx_algebra.proofs.Identities.{same3}
 use Rattle.gx_algebra.proofs.Order.{zero_of_mul}
-use Rattle.gx_plane.specs.Plane.{divisor_of, primitive, is_zero, side_of, supports, flipped, normal_of, plane_at, plane_with, plane_through}
+use Rattle.gx_plane.specs.Plane.{divisor_of, primitive, is_zero, side_of, supports, flipped, normal_of, plane_at, plane_with, plane_through, plane_from}
 use Rattle.gx_plane.proofs.Divisors.{divisor_of-divides, divisor_of-opposite, divisor_of-pos, unsigned_abs-opposite, zero-is_zero}
 use borrow.Author.Differences.{ints, neg_is}
-
--- the plane with normal n through a; the normal is not made primitive
-abbrev pub plane_from : V3 → V3 → HalfSpace
-plane_from n a = record { n = n; e = dot_of n a }
 
 -- ---- the test of support
 pub Decides-int_le : (a b : ℤ) → Decides (int_le a b) (a ≤ℤ b)
@@ -119,9 +115,18 @@ primitive-opposite v = same3 (primitive (opposite_of v)) (opposite_of (primitive
     out : (a : ℤ) → int_div (pos 0 -ℤ a) (pos (divisor_of (opposite_of v))) ≡ pos 0 -ℤ int_div a (pos (divisor_of v))
     out a = ap (λ (d : ℕ). int_div (pos 0 -ℤ a) (pos d)) (divisor_of-opposite v) ∙ int_div-opposite a (divisor_of v)
 
+pub plane_from-opposite : (n a : V3) → plane_from (opposite_of n) a ≡ flipped (plane_from n a)
+plane_from-opposite n a = ap (λ (d : ℤ). record { n = opposite_of n; e = d }) (dot_of-opposite_of n a)
+
+pub flipped-flipped : (h : HalfSpace) → flipped (flipped h) ≡ h
+flipped-flipped h = λ i. record { n = record { x = again h.n.x i; y = again h.n.y i; z = again h.n.z i }; e = again h.e i }
+  where
+    again : (a : ℤ) → pos 0 -ℤ (pos 0 -ℤ a) ≡ a
+    again a = omega (arith, ints)
+
 pub plane_at-opposite : (n a : V3) → plane_at (opposite_of n) a ≡ flipped (plane_at n a)
 plane_at-opposite n a =
-    ap (λ (m : V3). plane_from m a) (primitive-opposite n) ∙ ap (λ (d : ℤ). record { n = opposite_of (primitive n); e = d }) (dot_of-opposite_of (primitive n) a)
+    ap (λ (m : V3). plane_from m a) (primitive-opposite n) ∙ plane_from-opposite (primitive n) a
 
 pub plane_with-opposite : (n a : V3) → plane_with (opposite_of n) a ≡ option_map flipped (plane_with n a)
 plane_with-opposite n a =

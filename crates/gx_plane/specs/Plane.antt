@@ -50,9 +50,13 @@ flipped h = record { n = opposite_of h.n; e = pos 0 -ℤ h.e }
 abbrev pub normal_of : V3 → V3 → V3 → V3
 normal_of a b c = cross_of (difference_of b a) (difference_of c a)
 
--- the plane with this normal, made primitive, through a
+-- the plane with this normal through a
+abbrev pub plane_from : V3 → V3 → HalfSpace
+plane_from n a = record { n = n; e = dot_of n a }
+
+-- the same with the normal made primitive
 abbrev pub plane_at : V3 → V3 → HalfSpace
-plane_at n a = record { n = primitive n; e = dot_of (primitive n) a }
+plane_at n a = plane_from (primitive n) a
 
 abbrev pub is_zero : V3 → Bool
 is_zero v = unsigned_abs v.x == 0 && (unsigned_abs v.y == 0 && unsigned_abs v.z == 0)

@@ -3,7 +3,8 @@ ghost use Rattle.gx_num.specs.Vector.{IsWithin};
 ghost use Rattle.gx_plane.specs.Plane.{reach, normal_reach, offset_reach, plane_through};
 ghost use Rattle.gx_plane.specs.Between.{is_between, both_ways, candidates};
 
-use crate::plane::{bounds, normal, opposite, product, with_normal};
+use crate::plane::{opposite, with_normal};
+use crate::raw_plane::RawPlane;
 use crate::{Plane, Triples};
 use gx_num::V3;
 
@@ -32,25 +33,17 @@ pub fn first_of_three(p: V3, q: V3, r: V3, a: &[V3], b: &[V3]) -> Option<Plane>
     ensures { result ≡ find (is_between a.now b.now) (both_ways (plane_through p q r)) }
 {
     // By the signs of determinants: only a plane that is found gets a primitive normal.
-    let normal = normal(p, q, r);
-    let e = product(normal, p);
-    if parts(normal, e, a, b) {
-        return with_normal(normal, p);
+    let plane = RawPlane::through(p, q, r);
+    let on_a = plane.senses(a);
+    if on_a.are_refuted() {
+        return None;
     }
-    let opposite = opposite(normal);
-    if parts(opposite, -e, a, b) {
-        return with_normal(opposite, p);
+    let between = on_a.with_others(plane.senses(b));
+    if between.forward {
+        return with_normal(plane.n(), p);
+    }
+    if between.backward {
+        return with_normal(opposite(plane.n()), p);
     }
     None
-}
-
-// The plane `n . x = e` is between.
-fn parts(n: V3, e: i128, a: &[V3], b: &[V3]) -> bool
-    requires normal { IsWithin normal_reach n }
-    requires offset { unsigned_abs e ≤ offset_reach }
-    requires within { All (IsWithin reach) a.now }
-    requires others_within { All (IsWithin reach) b.now }
-    ensures { result ≡ is_between a.now b.now (record { n = n; e = e }) }
-{
-    bounds(n, e, a) && bounds(opposite(n), -e, b)
 }

@@ -4,6 +4,8 @@
 mod between;
 pub mod laws;
 mod plane;
+mod raw_plane;
+mod senses;
 #[cfg(test)]
 mod tests;
 mod triples;

@@ -94,7 +94,7 @@ impl Plane {
         ensures value { result ≡ side_of self.now p }
         ensures within { unsigned_abs result ≤ 2 * offset_reach }
     {
-        side(self.n, self.e, p)
+        product(self.n, p) - self.e
     }
 
     /// No point is beyond the plane.
@@ -102,7 +102,7 @@ impl Plane {
         requires { All (IsWithin reach) points.now }
         ensures { result ≡ supports self.now points.now }
     {
-        bounds(self.n, self.e, points)
+        points.iter().all(|&p| self.side(p) <= 0)
     }
 }
 
@@ -184,27 +184,6 @@ pub fn product(n: V3, p: V3) -> i128
     ensures within { unsigned_abs result ≤ offset_reach }
 {
     n.dot(p)
-}
-
-// `n . p - e`
-fn side(n: V3, e: i128, p: V3) -> i128
-    requires normal { IsWithin normal_reach n }
-    requires offset { unsigned_abs e ≤ offset_reach }
-    requires point { IsWithin reach p }
-    ensures value { result ≡ side_of (record { n = n; e = e }) p }
-    ensures within { unsigned_abs result ≤ 2 * offset_reach }
-{
-    product(n, p) - e
-}
-
-/// No point is beyond `n . p = e`.
-pub fn bounds(n: V3, e: i128, points: &[V3]) -> bool
-    requires normal { IsWithin normal_reach n }
-    requires offset { unsigned_abs e ≤ offset_reach }
-    requires within { All (IsWithin reach) points.now }
-    ensures { result ≡ supports (record { n = n; e = e }) points.now }
-{
-    points.iter().all(|&p| side(n, e, p) <= 0)
 }
 
 fn magnitude(a: i64) -> u128
