@@ -1,5 +1,5 @@
 -- What holds of all of a list, by its parts; the members of a list that a function made.
-use Rattle.std.proofs.Common.{◌≡◌, ◌⊎◌, inl, inr, zero, suc, List, [], ◌∷◌, ◌++◌, map, flat_map, All, refl, sym, subst, arith}
+use Rattle.std.proofs.Common.{◌≡◌, ◌⊎◌, inl, inr, zero, suc, Bool, true, false, cond, Option, Some, None, List, [], ◌∷◌, ◌++◌, map, flat_map, find, All, refl, sym, ap, ◌∙◌, subst, arith}
 use Rattle.std.specs.Prelude.{Contains}
 use Rattle.std.proofs.lemmas.List.Elements.{All-nil, All-cons, All-head, All-tail, All-from_recursion, All-map, All-weaker, All-contains, All-contains_itself, Contains-append_left, Contains-append_right}
 
@@ -48,3 +48,13 @@ Contains-flat_map f (z ∷ xs) x y m k = go (Contains-cases z xs x m) (λ n. Con
     go : (z ≡ x) ⊎ Contains xs x → (Contains xs x → Contains (flat_map f xs) y) → Contains (flat_map f (z ∷ xs)) y
     go (inl e) rest = Contains-append_left (f z) (flat_map f xs) y (subst (λ v. Contains (f v) y) (sym e) k)
     go (inr n) rest = Contains-append_right (f z) (flat_map f xs) y (rest n)
+
+-- what a search does not find, no member is
+pub find-none : {X : Type 0} (test : X → Bool) (xs : List X) (x : X) → find test xs ≡ None → Contains xs x → test x ≡ false
+find-none test [] x e m = absurd (omega (arith, m.1))
+find-none test (y ∷ xs) x e m = go (test y) refl e (Contains-cases y xs x m) (find-none test xs x)
+  where
+    go : (b : Bool) → test y ≡ b → cond b (Some y) (find test xs) ≡ None → (y ≡ x) ⊎ Contains xs x → (find test xs ≡ None → Contains xs x → test x ≡ false) → test x ≡ false
+    go true t e k rest = cc
+    go false t e (inl same) rest = ap test (sym same) ∙ t
+    go false t e (inr n) rest = rest e n

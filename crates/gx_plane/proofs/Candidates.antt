@@ -46,28 +46,29 @@ plane_through-twice p r = ap (λ (n : V3). plane_with n p) (nothing p r)
     nothing = identity3 (vector3 ∷ vector3 ∷ []) (λ p r. normal_term p p r ≣³ record { x = none; y = none; z = none }) tt
 
 -- ---- three points of a list
-pairs-either : (points : List V3) (q r : V3) → Contains points q → Contains points r → (q ≡ r) ⊎ (Contains (pairs_of points) (q, r) ⊎ Contains (pairs_of points) (r, q))
-pairs-either [] q r in_q in_r = absurd (omega (arith, in_q.1))
-pairs-either (s ∷ points) q r in_q in_r = go (Contains-cases s points q in_q) (Contains-cases s points r in_r) (pairs-either points q r)
+-- equal points, or a pair of the list in one order or the other
+abbrev AreAPair : List V3 → V3 → V3 → Type 0
+AreAPair points q r = (q ≡ r) ⊎ (Contains (pairs_of points) (q, r) ⊎ Contains (pairs_of points) (r, q))
+
+AreAPair-any : (points : List V3) (q r : V3) → Contains points q → Contains points r → AreAPair points q r
+AreAPair-any [] q r in_q in_r = absurd (omega (arith, in_q.1))
+AreAPair-any (s ∷ points) q r in_q in_r =
+    go (Contains-cases s points q in_q) (Contains-cases s points r in_r) (AreAPair-any points q r)
   where
     first : (u v : V3) → s ≡ u → Contains points v → Contains (pairs_of (s ∷ points)) (u, v)
     first u v e m =
-        Contains-append_left (map (λ w. (s, w)) points) (pairs_of points) (u, v)
-        (subst (λ (x : V3). Contains {X = V3 × V3} (map (λ w. (s, w)) points) (x, v)) e (Contains-map (λ w. (s, w)) points v m))
+        subst (λ (x : V3). Contains (pairs_of (s ∷ points)) (x, v)) e (Contains-append_left (map (λ w. (s, w)) points) (pairs_of points) (s, v) (Contains-map (λ w. (s, w)) points v m))
 
-    later : (t : V3 × V3) → Contains (pairs_of points) t → Contains (pairs_of (s ∷ points)) t
-    later t m = Contains-append_right (map (λ w. (s, w)) points) (pairs_of points) t m
+    later : AreAPair points q r → AreAPair (s ∷ points) q r
+    later (inl e) = inl e
+    later (inr (inl k)) = inr (inl (Contains-append_right (map (λ w. (s, w)) points) (pairs_of points) (q, r) k))
+    later (inr (inr k)) = inr (inr (Contains-append_right (map (λ w. (s, w)) points) (pairs_of points) (r, q) k))
 
-    both_later : (q ≡ r) ⊎ (Contains (pairs_of points) (q, r) ⊎ Contains (pairs_of points) (r, q)) → (q ≡ r) ⊎ (Contains (pairs_of (s ∷ points)) (q, r) ⊎ Contains (pairs_of (s ∷ points)) (r, q))
-    both_later (inl e) = inl e
-    both_later (inr (inl k)) = inr (inl (later (q, r) k))
-    both_later (inr (inr k)) = inr (inr (later (r, q) k))
-
-    go : (s ≡ q) ⊎ Contains points q → (s ≡ r) ⊎ Contains points r → (Contains points q → Contains points r → (q ≡ r) ⊎ (Contains (pairs_of points) (q, r) ⊎ Contains (pairs_of points) (r, q))) → (q ≡ r) ⊎ (Contains (pairs_of (s ∷ points)) (q, r) ⊎ Contains (pairs_of (s ∷ points)) (r, q))
+    go : (s ≡ q) ⊎ Contains points q → (s ≡ r) ⊎ Contains points r → (Contains points q → Contains points r → AreAPair points q r) → AreAPair (s ∷ points) q r
     go (inl e) (inl f) rest = inl (sym e ∙ f)
     go (inl e) (inr n) rest = inr (inl (first q r e n))
     go (inr m) (inl f) rest = inr (inr (first r q f m))
-    go (inr m) (inr n) rest = both_later (rest m n)
+    go (inr m) (inr n) rest = later (rest m n)
 
 -- the plane is through three points of a list in their order, or flipped is
 record HasTriple (points : List V3) (h : HalfSpace) : Type 0 where
@@ -83,44 +84,39 @@ way-second p q r h e =
     subst (λ (o : Option HalfSpace). Contains (both_ways o) h) (sym e)
     (Contains-tail (flipped h) (flipped (flipped h) ∷ []) h (subst (λ (k : HalfSpace). Contains (k ∷ []) h) (sym (flipped-flipped h)) (Contains-head h [])))
 
-triples-any : (points : List V3) (p q r : V3) (h : HalfSpace) → Contains points p → Contains points q → Contains points r → plane_through p q r ≡ Some h → HasTriple points h
-triples-any [] p q r h in_p in_q in_r e = absurd (omega (arith, in_p.1))
-triples-any (s ∷ points) p q r h in_p in_q in_r e =
-    go (Contains-cases s points p in_p) (Contains-cases s points q in_q) (Contains-cases s points r in_r) (λ l m n. triples-any points p q r h l m n e)
+HasTriple-any : (points : List V3) (p q r : V3) (h : HalfSpace) → Contains points p → Contains points q → Contains points r → plane_through p q r ≡ Some h → HasTriple points h
+HasTriple-any [] p q r h in_p in_q in_r e = absurd (omega (arith, in_p.1))
+HasTriple-any (s ∷ points) p q r h in_p in_q in_r e =
+    go (Contains-cases s points p in_p) (Contains-cases s points q in_q) (Contains-cases s points r in_r) (λ l m n. HasTriple-any points p q r h l m n e)
   where
-    first : (u v w : V3) → s ≡ u → Contains (pairs_of points) (v, w) → Contains (triples_of (s ∷ points)) (u, v, w)
-    first u v w e m =
-        Contains-append_left (map (λ (t : V3 × V3). (s, t.0, t.1)) (pairs_of points)) (triples_of points) (u, v, w)
-        (subst (λ (x : V3). Contains {X = V3 × V3 × V3} (map (λ (t : V3 × V3). (s, t.0, t.1)) (pairs_of points)) (x, v, w)) e (Contains-map (λ (t : V3 × V3). (s, t.0, t.1)) (pairs_of points) (v, w) m))
-
-    -- the first point of the list, and two others
-    with-first : (u v w : V3) → s ≡ u → Contains points v → Contains points w → plane_through u v w ≡ Some h → HasTriple (s ∷ points) h
-    with-first u v w e m n through = pick (pairs-either points v w m n)
-      where
-        pick : (v ≡ w) ⊎ (Contains (pairs_of points) (v, w) ⊎ Contains (pairs_of points) (w, v)) → HasTriple (s ∷ points) h
-        pick (inl f) = absurd (not_twice (sym (plane_through-turn u v w ∙ through) ∙ ap (λ (x : V3). plane_through v x u) (sym f) ∙ plane_through-twice v u))
-          where
-            not_twice : Some h ≡ None → ⊥
-            not_twice z = cc
-        pick (inr (inl k)) = record { triple = (u, v, w); in_list = first u v w e k; way = way-first u v w h through }
-        pick (inr (inr k)) = record {
-          triple = (u, w, v);
-          in_list = first u w v e k;
-          way = way-second u w v h (plane_through-swap w u v ∙ ap (option_map flipped) (sym (plane_through-turn w u v) ∙ through));
-        }
-
-    later : HasTriple points h → HasTriple (s ∷ points) h
-    later t = record {
-      triple = t.triple;
-      in_list = Contains-append_right (map (λ (t : V3 × V3). (s, t.0, t.1)) (pairs_of points)) (triples_of points) t.triple t.in_list;
-      way = t.way;
-    }
-
     twice : (u v w : V3) → u ≡ v → plane_through u v w ≡ Some h → ⊥
     twice u v w same through = no (sym through ∙ ap (λ (x : V3). plane_through u x w) (sym same) ∙ plane_through-twice u w)
       where
         no : Some h ≡ None → ⊥
         no z = cc
+
+    with_s : V3 × V3 → V3 × V3 × V3
+    with_s t = (s, t.0, t.1)
+
+    -- the first point of the list, and two others
+    first : (u v w : V3) → s ≡ u → Contains points v → Contains points w → plane_through u v w ≡ Some h → HasTriple (s ∷ points) h
+    first u v w e m n through = pick (AreAPair-any points v w m n)
+      where
+        in_list : (x y : V3) → Contains (pairs_of points) (x, y) → Contains (triples_of (s ∷ points)) (u, x, y)
+        in_list x y k =
+            subst (λ (z : V3). Contains (triples_of (s ∷ points)) (z, x, y)) e (Contains-append_left (map with_s (pairs_of points)) (triples_of points) (s, x, y) (Contains-map with_s (pairs_of points) (x, y) k))
+
+        pick : AreAPair points v w → HasTriple (s ∷ points) h
+        pick (inl f) = absurd (twice v w u f (plane_through-turn u v w ∙ through))
+        pick (inr (inl k)) = record { triple = (u, v, w); in_list = in_list v w k; way = way-first u v w h through }
+        pick (inr (inr k)) = record {
+          triple = (u, w, v);
+          in_list = in_list w v k;
+          way = way-second u w v h (plane_through-swap w u v ∙ ap (option_map flipped) (sym (plane_through-turn w u v) ∙ through));
+        }
+
+    later : HasTriple points h → HasTriple (s ∷ points) h
+    later t = record { triple = t.triple; in_list = Contains-append_right (map with_s (pairs_of points)) (triples_of points) t.triple t.in_list; way = t.way }
 
     qrp : plane_through q r p ≡ Some h
     qrp = plane_through-turn p q r ∙ e
@@ -130,14 +126,14 @@ triples-any (s ∷ points) p q r h in_p in_q in_r e =
 
     go : (s ≡ p) ⊎ Contains points p → (s ≡ q) ⊎ Contains points q → (s ≡ r) ⊎ Contains points r → (Contains points p → Contains points q → Contains points r → HasTriple points h) → HasTriple (s ∷ points) h
     go (inr l) (inr m) (inr n) rest = later (rest l m n)
-    go (inl f) (inr m) (inr n) rest = with-first p q r f m n e
-    go (inr l) (inl f) (inr n) rest = with-first q r p f n l qrp
-    go (inr l) (inr m) (inl f) rest = with-first r p q f l m rpq
+    go (inl f) (inr m) (inr n) rest = first p q r f m n e
+    go (inr l) (inl f) (inr n) rest = first q r p f n l qrp
+    go (inr l) (inr m) (inl f) rest = first r p q f l m rpq
     go (inl f) (inl g) n rest = absurd (twice p q r (sym f ∙ g) e)
     go (inl f) (inr m) (inl g) rest = absurd (twice r p q (sym g ∙ f) rpq)
     go (inr l) (inl f) (inl g) rest = absurd (twice q r p (sym f ∙ g) qrp)
 
 pub Contains-candidates : (points : List V3) (p q r : V3) (h : HalfSpace) → Contains points p → Contains points q → Contains points r → plane_through p q r ≡ Some h → Contains (candidates points) h
 Contains-candidates points p q r h in_p in_q in_r e =
-    let t = triples-any points p q r h in_p in_q in_r e in
+    let t = HasTriple-any points p q r h in_p in_q in_r e in
     Contains-flat_map (λ (t : V3 × V3 × V3). both_ways (plane_through t.0 t.1 t.2)) (triples_of points) t.triple h t.in_list t.way

@@ -1,5 +1,5 @@
 -- Where any plane of whole numbers is between two lists of points, a candidate is: it tilts to one.
-use Rattle.std.proofs.Common.{◌≡◌, ◌⊎◌, inl, inr, Bool, true, false, ◌&&◌, Option, Some, None, List, [], ◌∷◌, ◌++◌, map, find, All, Contains, cond, ℤ, pos, negsuc, ◌-ℤ◌, ◌*ℤ◌, ◌≤ℤ◌, ◌<ℤ◌, int_le, refl, sym, ap, ◌∙◌, subst, append-nil, arith, true≢false}
+use Rattle.std.proofs.Common.{◌≡◌, ◌⊎◌, inl, inr, Bool, true, false, ◌&&◌, Option, Some, None, List, [], ◌∷◌, ◌++◌, map, find, All, Contains, ℤ, pos, negsuc, ◌-ℤ◌, ◌*ℤ◌, ◌≤ℤ◌, ◌<ℤ◌, int_le, refl, sym, ap, ◌∙◌, subst, append-nil, arith, true≢false}
 use Rattle.std.specs.Bool.{Decides}
 use Rattle.std.proofs.lemmas.Bool.Decides.{Decides-and, Decides-like, Decides-by_and}
 use Rattle.std.proofs.lemmas.List.Elements.{All-append, All-map, All-weaker, Contains-append_left, Contains-append_right, Contains-append_cases}
@@ -7,7 +7,7 @@ use Rattle.gx_num.specs.declared.vector.V3.{V3}
 use Rattle.gx_num.specs.Vector.{times3}
 use Rattle.gx_num.specs.Space.{HalfSpace}
 use Rattle.gx_num.specs.Vector4.{Vec4, dot4, times4, opposite4, minors}
-use Rattle.gx_algebra.proofs.Lists.{All-append_parts, All-from_map, Contains-unmap, Contains-cases}
+use Rattle.gx_algebra.proofs.Lists.{All-append_parts, All-from_map, Contains-unmap, find-none}
 use Rattle.gx_algebra.proofs.Ring.{num}
 use Rattle.gx_algebra.proofs.Terms as term
 use Rattle.gx_algebra.proofs.Terms.{Term3, Term4, ◌≣◌, ◌≣⁴◌, ◌⊕◌, ◌⊖◌, ◌⊗◌, none}
@@ -226,17 +226,7 @@ tilted_between a b h g spans is = from (tilted (sides a b) g spans (lifted h) is
         let o = IsOfPoints-from_three a b w three in
         at_points w isb o (plane_through o.p o.q o.r) refl
 
--- what a search does not find, no member is
-find-none : {X : Type 0} (test : X → Bool) (xs : List X) (x : X) → find test xs ≡ None → Contains xs x → test x ≡ false
-find-none test [] x e m = absurd (omega (arith, m.1))
-find-none test (y ∷ xs) x e m = go (test y) refl e (Contains-cases y xs x m) (find-none test xs x)
-  where
-    go : (b : Bool) → test y ≡ b → cond b (Some y) (find test xs) ≡ None → (y ≡ x) ⊎ Contains xs x → (find test xs ≡ None → Contains xs x → test x ≡ false) → test x ≡ false
-    go true t e k rest = cc
-    go false t e (inl same) rest = ap test (sym same) ∙ t
-    go false t e (inr n) rest = rest e n
-
--- so where no candidate is between, no plane with something strictly on its side is
+-- So where no candidate is between, no plane with something strictly on its side is.
 pub none_between : (a b : List V3) (h : HalfSpace) (g : Vec4) → Spans (sides a b) → IsBeyond (sides a b) g (lifted h) → find (is_between a b) (candidates (a ++ b)) ≡ None → ⊥
 none_between a b h g spans is none =
     let k = tilted_between a b h g spans is in

@@ -28,6 +28,7 @@ impl<'a> Model for Triples<'a> {
 }
 
 impl<'a> Triples<'a> {
+    /// All triples of `a` and then `b`, of which each may be empty.
     pub fn new(a: &'a [V3], b: &'a [V3]) -> Triples<'a>
         ensures { result ≡ triples_of (a.now ++ b.now) }
     {
