@@ -1,6 +1,6 @@
-ghost use Rattle.std.specs.Prelude.{◌≡◌, ◌↔◌, ◌<◌, ◌≤◌, ◌*◌, ◌<ℤ◌, ◌-ℤ◌, pos, IsTrue, unsigned_abs, int_div, All};
+ghost use Rattle.std.specs.Prelude.{◌≡◌, ◌<◌, ◌≤◌, ◌*◌, ◌<ℤ◌, ◌-ℤ◌, pos, unsigned_abs, int_div, All};
 ghost use Rattle.gx_num.specs.Vector.{IsWithin, dot_of, difference_of};
-ghost use Rattle.gx_plane.specs.Plane.{reach, normal_reach, offset_reach, divisor_of, primitive, IsPrimitive, side_of, Supports, flipped, normal_of, plane_through, unit_along, plane_along};
+ghost use Rattle.gx_plane.specs.Plane.{reach, normal_reach, offset_reach, divisor_of, primitive, IsPrimitive, side_of, supports, flipped, normal_of, plane_with, plane_through, unit_along, plane_along};
 
 use gx_num::{V3, gcd};
 use std::marker::Model;
@@ -48,16 +48,7 @@ impl Plane {
         requires third { IsWithin reach c }
         ensures { result ≡ plane_through a b c }
     {
-        let normal = normal(a, b, c);
-        let divisor = divisor(normal);
-        if divisor == 0 {
-            return None;
-        }
-        let n = divided(normal, signed(divisor));
-        Some(Plane {
-            n,
-            e: product(n, a),
-        })
+        with_normal(normal(a, b, c), a)
     }
 
     /// The same plane with the opposite normal.
@@ -95,10 +86,27 @@ impl Plane {
     /// No point is beyond the plane.
     pub fn supports(&self, points: &[V3]) -> bool
         requires { All (IsWithin reach) points.now }
-        ensures { IsTrue result ↔ Supports self.now points.now }
+        ensures { result ≡ supports self.now points.now }
     {
         points.iter().all(|&p| self.side(p) <= 0)
     }
+}
+
+// The plane through a point with a normal along this one; None where that is zero.
+fn with_normal(normal: V3, a: V3) -> Option<Plane>
+    requires normal { IsWithin normal_reach normal }
+    requires point { IsWithin reach a }
+    ensures { result ≡ plane_with normal a }
+{
+    let divisor = divisor(normal);
+    if divisor == 0 {
+        return None;
+    }
+    let n = divided(normal, signed(divisor));
+    Some(Plane {
+        n,
+        e: product(n, a),
+    })
 }
 
 fn unit(axis: u8) -> V3
