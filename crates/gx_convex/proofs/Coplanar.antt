@@ -99,36 +99,36 @@ triples_from_AllThree R (p ∷ ps) h =
 
 -- ---- coplanar points
 -- each of the points has volume 0 with the three
-abbrev pub AreLevel : List V3 → V3 → V3 → V3 → Type 0
-AreLevel ps a b c = All (λ p. volume a b c p ≡ pos 0) ps
+abbrev pub AreInPlane : List V3 → V3 → V3 → V3 → Type 0
+AreInPlane ps a b c = All (λ p. volume a b c p ≡ pos 0) ps
 
 -- each four of the points have volume 0
 abbrev pub IsCoplanar : List V3 → Type 0
-IsCoplanar ps = AllThree (AreLevel ps) ps
+IsCoplanar ps = AllThree (AreInPlane ps) ps
 
-pub Decides-triples : (ps : List V3) → Decides (are_coplanar ps) (All (λ t. AreLevel ps t.0 t.1 t.2) (triples_of ps))
+pub Decides-triples : (ps : List V3) → Decides (are_coplanar ps) (All (λ t. AreInPlane ps t.0 t.1 t.2) (triples_of ps))
 Decides-triples ps =
-    Decides-by_and (λ t. list_all (is_coplanar t.0 t.1 t.2) ps) (λ t. AreLevel ps t.0 t.1 t.2) (list_all (λ t. list_all (is_coplanar t.0 t.1 t.2) ps)) (λ t. three t.0 t.1 t.2 ps) refl (λ _ _. refl) (triples_of ps)
+    Decides-by_and (λ t. list_all (is_coplanar t.0 t.1 t.2) ps) (λ t. AreInPlane ps t.0 t.1 t.2) (list_all (λ t. list_all (is_coplanar t.0 t.1 t.2) ps)) (λ t. three t.0 t.1 t.2 ps) refl (λ _ _. refl) (triples_of ps)
   where
-    three : (a b c : V3) (ps : List V3) → Decides (list_all (is_coplanar a b c) ps) (AreLevel ps a b c)
+    three : (a b c : V3) (ps : List V3) → Decides (list_all (is_coplanar a b c) ps) (AreInPlane ps a b c)
     three a b c =
         Decides-by_and (is_coplanar a b c) (λ p. volume a b c p ≡ pos 0) (list_all (is_coplanar a b c)) (λ p. Decides-int_eq (volume a b c p) (pos 0)) refl (λ _ _. refl)
 
 pub Decides-are_coplanar : (ps : List V3) → Decides (are_coplanar ps) (IsCoplanar ps)
 Decides-are_coplanar ps =
     Decides-like (are_coplanar ps)
-    (AllThree-from_triples (AreLevel ps)
+    (AllThree-from_triples (AreInPlane ps)
     (λ a b c h k d lt. omega (arith, ints, h k d lt, volume_swap_first a b c (get_or ps k d)))
     (λ a b c h k d lt. omega (arith, ints, h k d lt, volume_swap_second a b c (get_or ps k d)))
     (λ a c k d lt. volume_same a c (get_or ps k d)) ps)
-    (triples_from_AllThree (AreLevel ps) ps)
+    (triples_from_AllThree (AreInPlane ps) ps)
     (Decides-triples ps)
 
 IsCoplanar-moved : (ps qs : List V3) → ((P : V3 → Type 0) → All P ps → All P qs) → IsCoplanar ps → IsCoplanar qs
 IsCoplanar-moved ps qs move h =
-    move (λ a. AllTwo (AreLevel qs a) qs)
-    (λ k d lt. move (λ b. All (AreLevel qs (get_or ps k d) b) qs)
-    (λ m e mt. move (AreLevel qs (get_or ps k d) (get_or ps m e))
+    move (λ a. AllTwo (AreInPlane qs a) qs)
+    (λ k d lt. move (λ b. All (AreInPlane qs (get_or ps k d) b) qs)
+    (λ m e mt. move (AreInPlane qs (get_or ps k d) (get_or ps m e))
     (λ n f nt. move (λ p. volume (get_or ps k d) (get_or ps m e) (get_or ps n f) p ≡ pos 0) (h k d lt m e mt n f nt))))
 
 pub are_coplanar-distinct : (ps : List V3) → are_coplanar (distinct ps) ≡ are_coplanar ps

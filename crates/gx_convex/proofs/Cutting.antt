@@ -16,6 +16,7 @@ use Rattle.gx_convex.specs.Hull.{IsAtMost, IsBound, IsHullOf}
 use Rattle.gx_convex.specs.Extent.{lower, upper, extent_of}
 use Rattle.gx_convex.specs.Faces.{faces_of}
 use Rattle.gx_convex.specs.Laws.{IsBetween, FacesAreTheSolid}
+use Rattle.gx_plane.proofs.PlaneFacts.{Decides-supports}
 use Rattle.gx_convex.proofs.Truth.{Decides-itself, Decides-is_in, Decides-is_inside}
 use Rattle.gx_convex.proofs.Strict.{strict}
 use Rattle.gx_convex.proofs.FaceFacts.{faces_bound, implied}
@@ -43,12 +44,12 @@ between solid vertices hull u of at plane other same same_at min max p w inside 
     let up : HalfSpace = record { n = u; e = high } in
     let down : HalfSpace = record { n = u; e = low } in
     record {
-      above = omega (arith, ints, same_at p, flipped_height u low p, strict solid (flipped down) other (hull.bounded (flipped down) (All-weaker (λ q. low ≤ℤ of q) (λ q. side_of (flipped down) q ≤ℤ pos 0) (λ q k. omega (arith, ints, k, same q, side_of-flipped down q)) vertices (low_below of min vertices))) p w inside);
-      below = omega (arith, ints, same_at p, strict solid up plane (hull.bounded up (All-weaker (λ q. of q ≤ℤ high) (λ q. side_of up q ≤ℤ pos 0) (λ q k. omega (arith, ints, k, same q)) vertices (high_above of max vertices))) p w inside);
+      above = omega (arith, ints, same_at p, normal_dot-flipped u low p, strict solid (flipped down) other (hull.bounded (flipped down) ((Decides-supports (flipped down) vertices).1 (All-weaker (λ q. low ≤ℤ of q) (λ q. side_of (flipped down) q ≤ℤ pos 0) (λ q k. omega (arith, ints, k, same q, side_of-flipped down q)) vertices (low_below of min vertices)))) p w inside);
+      below = omega (arith, ints, same_at p, strict solid up plane (hull.bounded up ((Decides-supports up vertices).1 (All-weaker (λ q. of q ≤ℤ high) (λ q. side_of up q ≤ℤ pos 0) (λ q k. omega (arith, ints, k, same q)) vertices (high_above of max vertices)))) p w inside);
     }
   where
-    flipped_height : (u : V3) (low : ℤ) (p : Vec4) → normal_dot (flipped (record { n = u; e = low })) p -ℤ (pos 0 -ℤ low) *ℤ p.w ≡ low *ℤ p.w -ℤ normal_dot (record { n = u; e = low }) p
-    flipped_height = identity (vector3 ∷ number ∷ vector4 ∷ []) (λ u low p. term.normal_dot (record { n = record { x = none ⊖ u.x; y = none ⊖ u.y; z = none ⊖ u.z }; e = none ⊖ low }) p ⊖ (none ⊖ low) ⊗ p.w ≣ low ⊗ p.w ⊖ term.normal_dot (record { n = u; e = low }) p) tt
+    normal_dot-flipped : (u : V3) (low : ℤ) (p : Vec4) → normal_dot (flipped (record { n = u; e = low })) p -ℤ (pos 0 -ℤ low) *ℤ p.w ≡ low *ℤ p.w -ℤ normal_dot (record { n = u; e = low }) p
+    normal_dot-flipped = identity (vector3 ∷ number ∷ vector4 ∷ []) (λ u low p. term.normal_dot (record { n = record { x = none ⊖ u.x; y = none ⊖ u.y; z = none ⊖ u.z }; e = none ⊖ low }) p ⊖ (none ⊖ low) ⊗ p.w ≣ low ⊗ p.w ⊖ term.normal_dot (record { n = u; e = low }) p) tt
 
 pub faces_are_the_solid : FacesAreTheSolid
 faces_are_the_solid solid vertices apart hull = record {

@@ -13,6 +13,7 @@ use Rattle.gx_algebra.proofs.Identities.{same3}
 use Rattle.gx_plane.specs.Plane.{side_of}
 use Rattle.gx_convex.specs.Points.{is_same, distinct_by, distinct}
 use Rattle.gx_convex.specs.Hull.{IsBound, IsHullOf}
+use Rattle.gx_plane.proofs.PlaneFacts.{Decides-supports}
 
 pub Decides-is_same : (a b : V3) → Decides (is_same a b) (a ≡ b)
 Decides-is_same a b =
@@ -90,6 +91,6 @@ length-distinct_le ps = length-distinct_by_le [] ps
 -- ---- the distinct vertices are those of the same solid
 pub IsHullOf-distinct : (solid : List HalfSpace) (ps : List V3) → IsHullOf solid ps → IsHullOf solid (distinct ps)
 IsHullOf-distinct solid ps hull = record {
-  bounds = All-weaker (IsBound ps) (IsBound (distinct ps)) (λ h b. record { plane = b.plane; supports = All-distinct (λ p. side_of h p ≤ℤ pos 0) ps b.supports }) solid hull.bounds;
-  bounded = λ h s. hull.bounded h (All-from_distinct (λ p. side_of h p ≤ℤ pos 0) ps s);
+  bounds = All-weaker (IsBound ps) (IsBound (distinct ps)) (λ h b. record { plane = b.plane; supports = (Decides-supports h (distinct ps)).1 (All-distinct (λ p. side_of h p ≤ℤ pos 0) ps ((Decides-supports h ps).0 b.supports)) }) solid hull.bounds;
+  bounded = λ h s. hull.bounded h ((Decides-supports h ps).1 (All-from_distinct (λ p. side_of h p ≤ℤ pos 0) ps ((Decides-supports h (distinct ps)).0 s)));
 }

@@ -26,8 +26,8 @@ moved m p n = record {
   w = pos m *ℤ p.w;
 }
 
-height-moved : (h : HalfSpace) (m : ℕ) (p : Vec4) (n : V3) → normal_dot h (moved m p n) ≡ pos m *ℤ normal_dot h p +ℤ dot_of h.n n
-height-moved = identity (half_space ∷ natural ∷ vector4 ∷ vector3 ∷ []) (λ h m p n. term.normal_dot h (record { x = m ⊗ p.x ⊕ n.x; y = m ⊗ p.y ⊕ n.y; z = m ⊗ p.z ⊕ n.z; w = m ⊗ p.w }) ≣ m ⊗ term.normal_dot h p ⊕ term.dot_of h.n n) tt
+normal_dot-moved : (h : HalfSpace) (m : ℕ) (p : Vec4) (n : V3) → normal_dot h (moved m p n) ≡ pos m *ℤ normal_dot h p +ℤ dot_of h.n n
+normal_dot-moved = identity (half_space ∷ natural ∷ vector4 ∷ vector3 ∷ []) (λ h m p n. term.normal_dot h (record { x = m ⊗ p.x ⊕ n.x; y = m ⊗ p.y ⊕ n.y; z = m ⊗ p.z ⊕ n.z; w = m ⊗ p.w }) ≣ m ⊗ term.normal_dot h p ⊕ term.dot_of h.n n) tt
 
 mul_turn : (m : ℕ) (e w : ℤ) → e *ℤ (pos m *ℤ w) ≡ pos m *ℤ (e *ℤ w)
 mul_turn = identity (natural ∷ number ∷ number ∷ []) (λ m e w. e ⊗ (m ⊗ w) ≣ m ⊗ (e ⊗ w)) tt
@@ -46,7 +46,7 @@ stays [] p n h = (0, λ m le. All-nil (λ g. IsAtMost g (moved m p n)))
 stays (g ∷ gs) p n h =
     let lt = All-head (λ g. normal_dot g p <ℤ (g.e *ℤ p.w)) g gs h in
     let rest = stays gs p n (All-tail (λ g. normal_dot g p <ℤ (g.e *ℤ p.w)) g gs h) in
-    (unsigned_abs (dot_of g.n n) + rest.0, λ m le. All-cons (λ g. IsAtMost g (moved m p n)) g gs (omega (arith, ints, height-moved g m p n, mul_turn m g.e p.w, short_step m (normal_dot g p) (g.e *ℤ p.w) (dot_of g.n n) lt (omega arith))) (rest.1 m (omega arith)))
+    (unsigned_abs (dot_of g.n n) + rest.0, λ m le. All-cons (λ g. IsAtMost g (moved m p n)) g gs (omega (arith, ints, normal_dot-moved g m p n, mul_turn m g.e p.w, short_step m (normal_dot g p) (g.e *ℤ p.w) (dot_of g.n n) lt (omega arith))) (rest.1 m (omega arith)))
 
 dot_of-self : (n : V3) → is_zero n ≡ false → pos 0 <ℤ dot_of n n
 dot_of-self n e =
@@ -75,7 +75,7 @@ strict solid h plane holds p w inside = by_lt_z (normal_dot h p) (h.e *ℤ p.w) 
           arith,
           ints,
           at_most,
-          height-moved h m p h.n,
+          normal_dot-moved h m p h.n,
           mul_turn m h.e p.w,
           mul-le-left (pos m) (h.e *ℤ p.w) (normal_dot h p) (omega (arith, ints)) le,
           dot_of-self h.n plane,

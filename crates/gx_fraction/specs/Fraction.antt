@@ -17,7 +17,7 @@ IsEqual a b = a.num *ℤ pos b.den ≡ b.num *ℤ pos a.den
 -- num/den in lowest terms
 abbrev pub lowest : ℤ → ℕ → Fraction
 lowest num den =
-    let divisor = common_divisor (unsigned_abs num ∷ den ∷ []) in record { num = int_div num (pos divisor); den = den / divisor }
+    let divisor = common_divisor (den ∷ unsigned_abs num ∷ []) in record { num = int_div num (pos divisor); den = den / divisor }
 
 abbrev pub opposite : Fraction → Fraction
 opposite f = record { num = neg_ℤ f.num; den = f.den }

@@ -1,17 +1,11 @@
--- The faces and the extent of points, and the hull that they have.
-use Rattle.std.specs.Prelude.{◌≡◌, pos, ◌≤◌, Bool, false, ◌&&◌, int_le, nat_lt, if◌then◌else◌, List, [], ◌∷◌, length, fold, filter_map, All, Option, None, Some, Result, Ok, Err}
-use Rattle.std.specs.Int.{int_min, int_max}
-use Rattle.std.specs.List.{list_all}
-use Rattle.std.specs.Ordering.{int_eq}
+-- The hull that points have, or why they have none.
+use Rattle.std.specs.Prelude.{◌≡◌, ◌≤◌, false, nat_lt, if◌then◌else◌, List, length, All, Result, Ok, Err}
 use Rattle.gx_num.specs.declared.vector.V3.{V3}
 use Rattle.gx_num.specs.Vector.{IsWithin}
-use Rattle.gx_num.specs.Space.{HalfSpace}
-use Rattle.gx_plane.specs.Plane.{reach, side_of, flipped, plane_through}
-use Rattle.gx_plane.specs.Between.{triples_of}
-use Rattle.gx_convex.specs.Points.{is_same, distinct_by, distinct, are_coplanar}
+use Rattle.gx_plane.specs.Plane.{reach}
+use Rattle.gx_convex.specs.Points.{distinct, are_coplanar}
 use Rattle.gx_hull.specs.declared.fault.HullFault.{HullFault}
 use Rattle.gx_hull.specs.declared.fault.HullFault.TheVariants.{Vertices, Flat, NoMemory}
-use Rattle.gx_num.specs.declared.extent.Extent.{Extent}
 
 -- what the vertices of a hull keep
 pub record IsVertices (vertices : List V3) : Type 0 where

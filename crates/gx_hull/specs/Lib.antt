@@ -1,3 +1,1 @@
 pub mod Hull
-pub mod Laws
-pub mod Planes

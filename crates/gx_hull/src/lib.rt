@@ -4,8 +4,6 @@
 mod faces;
 mod fault;
 mod hull;
-pub mod laws;
-mod planes;
 mod points;
 mod solid;
 #[cfg(test)]

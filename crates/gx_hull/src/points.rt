@@ -11,7 +11,7 @@ use crate::HullFault;
 use gx_num::{Extent, V3};
 use std::alloc::Global;
 
-const MOST: usize = 32;
+const MAX_VERTICES: usize = 32;
 
 /// Each point once, at its first place; `Vertices` where there are more than 32.
 pub fn distinct(alloc: Global, points: &[V3]) -> Result<Vec<V3>, HullFault>
@@ -24,7 +24,7 @@ pub fn distinct(alloc: Global, points: &[V3]) -> Result<Vec<V3>, HullFault>
     let mut kept = Vec::new(alloc);
     for &p in points {
         if !is_among(p, &kept) {
-            if kept.len() == MOST {
+            if kept.len() == MAX_VERTICES {
                 return Err(HullFault::Vertices);
             }
             kept.push(p)?;

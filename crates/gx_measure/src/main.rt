@@ -30,7 +30,7 @@ fn main(rt: HostRuntime) -> io::Result<()> {
         println!(rt; "{count} hulls of {vertices} vertices, {faces} faces")?;
     } else {
         let planes = planes(rt.alloc(), &mut random, count, vertices);
-        println!(rt; "{count} pairs of hulls of {vertices} vertices, {planes} planes")?;
+        println!(rt; "the pairs of {count} hulls of {vertices} vertices, {planes} planes")?;
     }
     Ok(())
 }
@@ -46,13 +46,19 @@ fn faces(alloc: Global, random: &mut Random, count: u64, vertices: usize) -> u64
     faces
 }
 
-// How many of so many pairs of hulls have a plane between them.
+// How many pairs of so many hulls have a plane between them.
 fn planes(alloc: Global, random: &mut Random, count: u64, vertices: usize) -> u64 {
-    let mut planes = 0u64;
+    let mut hulls = Vec::new(alloc);
     for _ in 0..count {
-        let first = hull(alloc, random, vertices);
-        let second = hull(alloc, random, vertices);
-        if let (Some(a), Some(b)) = (first, second) {
+        if let Some(hull) = hull(alloc, random, vertices) {
+            if hulls.push(hull).is_err() {
+                return 0;
+            }
+        }
+    }
+    let mut planes = 0u64;
+    for (i, a) in hulls.iter().enumerate() {
+        for b in &hulls[i + 1..] {
             if first_triple_between(a.vertices(), b.vertices()).is_some() {
                 planes = planes.saturating_add(1);
             }

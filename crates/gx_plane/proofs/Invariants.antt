@@ -1,21 +1,19 @@
 -- The planes that are made here keep what each plane keeps.
-use Rattle.std.proofs.Common.{◌≡◌, ℕ, zero, suc, ◌≤◌, ◌<◌, Bool, cond, Some, None, ℤ, pos, ◌-ℤ◌, unsigned_abs, refl, sym, ap, ◌∙◌, arith}
+use Rattle.std.proofs.Common.{◌≡◌, ℕ, zero, suc, ◌≤◌, ◌<◌, Some, None, ℤ, pos, ◌-ℤ◌, unsigned_abs, refl, sym, ap, ◌∙◌, arith}
 use Rattle.gx_num.specs.declared.vector.V3.{V3}
 use Rattle.gx_num.specs.Number.{common_divisor}
 use Rattle.gx_num.specs.Vector.{IsWithin, dot_of, opposite_of}
 use Rattle.gx_num.specs.Space.{HalfSpace}
-use Rattle.gx_plane.specs.Plane.{reach, normal_reach, offset_reach, divisor_of, primitive, IsPlane, is_zero, plane_at, plane_with, unit_along}
+use Rattle.gx_plane.specs.Plane.{reach, normal_reach, offset_reach, divisor_of, primitive, IsPlane, plane_at, plane_with, unit_along}
 use Rattle.gx_plane.proofs.Divisors.{unsigned_abs-opposite, divisor_of-opposite, IsPrimitive-primitive, IsWithin-primitive, is_zero-divisor_of, not_zero-divisor_of}
+use Rattle.gx_plane.proofs.Sizes.{IsWithin-opposite_of}
+use Rattle.gx_plane.proofs.PlaneFacts.{plane_with-zero, plane_with-apart}
 
 pub IsPlane-opposite : (h : HalfSpace) (n : V3) (e : ℤ) → n ≡ opposite_of h.n → e ≡ pos 0 -ℤ h.e → IsPlane h → IsPlane (record { n = n; e = e })
 IsPlane-opposite h n e is level p =
     rw (is, level) (record {
       primitive = record { divisor = divisor_of-opposite h.n ∙ p.primitive.divisor };
-      within = record {
-        x = omega (arith, unsigned_abs-opposite h.n.x, p.within.x);
-        y = omega (arith, unsigned_abs-opposite h.n.y, p.within.y);
-        z = omega (arith, unsigned_abs-opposite h.n.z, p.within.z);
-      };
+      within = IsWithin-opposite_of normal_reach h.n p.within;
       offset_within = omega (arith, unsigned_abs-opposite h.e, p.offset_within);
     })
 
@@ -47,9 +45,9 @@ IsPlane-with v n e lt w is h =
 
 -- ---- the plane with a normal, from what the code computes
 pub none-plane_with : (v a : V3) → divisor_of v ≡ 0 → None ≡ plane_with v a
-none-plane_with v a e = sym (ap (λ (t : Bool). cond t None (Some (plane_at v a))) (is_zero-divisor_of v e))
+none-plane_with v a e = sym (plane_with-zero v a (is_zero-divisor_of v e))
 
 pub some-plane_with : (v a n : V3) (e : ℤ) → 0 < divisor_of v → n ≡ primitive v → e ≡ dot_of n a → Some (record { n = n; e = e }) ≡ plane_with v a
 some-plane_with v a n e lt is level =
     let same : ◌≡◌ {A = HalfSpace} (record { n = n; e = e }) (plane_at v a) = λ i. record { n = is i; e = (level ∙ ap (λ (m : V3). dot_of m a) is) i } in
-    ap Some same ∙ sym (ap (λ (t : Bool). cond t None (Some (plane_at v a))) (not_zero-divisor_of v lt))
+    ap Some same ∙ sym (plane_with-apart v a (not_zero-divisor_of v lt))

@@ -18,6 +18,10 @@ use Rattle.gx_plane.specs.Plane.{divisor_of, primitive, is_zero, side_of, suppor
 use Rattle.gx_plane.proofs.Divisors.{divisor_of-divides, divisor_of-opposite, divisor_of-pos, unsigned_abs-opposite, zero-is_zero}
 use borrow.Author.Differences.{ints, neg_is}
 
+-- the plane with normal n through a; the normal is not made primitive
+abbrev pub plane_from : V3 → V3 → HalfSpace
+plane_from n a = record { n = n; e = dot_of n a }
+
 -- ---- the test of support
 pub Decides-int_le : (a b : ℤ) → Decides (int_le a b) (a ≤ℤ b)
 Decides-int_le a b = (λ e. omega (arith, ints, e), λ h. grind (arith, ints))
@@ -60,29 +64,28 @@ pub record IsWith (n a : V3) (h : HalfSpace) : Type 0 where
   pub apart : 0 < divisor_of n
   pub same : h ≡ plane_at n a
 
-module _ (n a : V3) where
-  with-none : is_zero n ≡ true → plane_with n a ≡ None
-  with-none e = ap (λ (t : Bool). cond t None (Some (plane_at n a))) e
+pub plane_with-zero : (n a : V3) → is_zero n ≡ true → plane_with n a ≡ None
+plane_with-zero n a e = ap (λ (t : Bool). cond t None (Some (plane_at n a))) e
 
-  with-some : is_zero n ≡ false → plane_with n a ≡ Some (plane_at n a)
-  with-some e = ap (λ (t : Bool). cond t None (Some (plane_at n a))) e
+pub plane_with-apart : (n a : V3) → is_zero n ≡ false → plane_with n a ≡ Some (plane_at n a)
+plane_with-apart n a e = ap (λ (t : Bool). cond t None (Some (plane_at n a))) e
 
 pub plane_with_some : (n a : V3) (h : HalfSpace) → plane_with n a ≡ Some h → IsWith n a h
 plane_with_some n a h e = go (is_zero n) refl
   where
     go : (t : Bool) → is_zero n ≡ t → IsWith n a h
-    go true z = absurd (no (sym (with-none n a z) ∙ e))
+    go true z = absurd (no (sym (plane_with-zero n a z) ∙ e))
       where
         no : None ≡ Some h → ⊥
         no p = cc
-    go false z = let some = with-some n a z in record { apart = divisor_of-pos n z; same = cc }
+    go false z = let some = plane_with-apart n a z in record { apart = divisor_of-pos n z; same = cc }
 
 pub plane_with_none : (n a : V3) → plane_with n a ≡ None → n ≡ record { x = pos 0; y = pos 0; z = pos 0 }
 plane_with_none n a e = go (is_zero n) refl
   where
     go : (t : Bool) → is_zero n ≡ t → n ≡ record { x = pos 0; y = pos 0; z = pos 0 }
     go true z = zero-is_zero n z
-    go false z = absurd (no (sym e ∙ with-some n a z))
+    go false z = absurd (no (sym e ∙ plane_with-apart n a z))
       where
         no : None ≡ Some (plane_at n a) → ⊥
         no p = cc
@@ -92,11 +95,11 @@ pub plane_with-point : (n a b : V3) → dot_of n (difference_of b a) ≡ pos 0 �
 plane_with-point n a b e = go (is_zero n) refl
   where
     go : (t : Bool) → is_zero n ≡ t → plane_with n b ≡ plane_with n a
-    go true z = with-none n b z ∙ sym (with-none n a z)
+    go true z = plane_with-zero n b z ∙ sym (plane_with-zero n a z)
     go false z =
         let on : side_of (plane_at n a) b ≡ pos 0 = zero_of_mul (pos (divisor_of n)) (side_of (plane_at n a) b) (omega (arith, ints, divisor_of-pos n z)) (side_of-plane_at n a b ∙ e) in
         let level : dot_of (primitive n) b ≡ dot_of (primitive n) a = omega (arith, ints, on) in
-        with-some n b z ∙ ap (λ (d : ℤ). Some (record { n = primitive n; e = d })) level ∙ sym (with-some n a z)
+        plane_with-apart n b z ∙ ap (λ (d : ℤ). Some (record { n = primitive n; e = d })) level ∙ sym (plane_with-apart n a z)
 
 -- with the opposite normal
 int_div-opposite : (a : ℤ) (d : ℕ) → int_div (pos 0 -ℤ a) (pos d) ≡ pos 0 -ℤ int_div a (pos d)
@@ -116,16 +119,16 @@ primitive-opposite v = same3 (primitive (opposite_of v)) (opposite_of (primitive
     out : (a : ℤ) → int_div (pos 0 -ℤ a) (pos (divisor_of (opposite_of v))) ≡ pos 0 -ℤ int_div a (pos (divisor_of v))
     out a = ap (λ (d : ℕ). int_div (pos 0 -ℤ a) (pos d)) (divisor_of-opposite v) ∙ int_div-opposite a (divisor_of v)
 
+pub plane_at-opposite : (n a : V3) → plane_at (opposite_of n) a ≡ flipped (plane_at n a)
+plane_at-opposite n a =
+    ap (λ (m : V3). plane_from m a) (primitive-opposite n) ∙ ap (λ (d : ℤ). record { n = opposite_of (primitive n); e = d }) (dot_of-opposite_of (primitive n) a)
+
 pub plane_with-opposite : (n a : V3) → plane_with (opposite_of n) a ≡ option_map flipped (plane_with n a)
 plane_with-opposite n a =
-    ap (λ (t : Bool). cond t None (Some (plane_at (opposite_of n) a))) zero_too ∙ ap (λ (h : HalfSpace). cond (is_zero n) None (Some h)) plane ∙ out (is_zero n)
+    ap (λ (t : Bool). cond t None (Some (plane_at (opposite_of n) a))) zero_too ∙ ap (λ (h : HalfSpace). cond (is_zero n) None (Some h)) (plane_at-opposite n a) ∙ out (is_zero n)
   where
     zero_too : is_zero (opposite_of n) ≡ is_zero n
     zero_too = rw (unsigned_abs-opposite n.x, unsigned_abs-opposite n.y, unsigned_abs-opposite n.z) refl
-
-    plane : plane_at (opposite_of n) a ≡ flipped (plane_at n a)
-    plane =
-        ap (λ (m : V3). record { n = m; e = dot_of m a }) (primitive-opposite n) ∙ ap (λ (d : ℤ). record { n = opposite_of (primitive n); e = d }) (dot_of-opposite_of (primitive n) a)
 
     out : (t : Bool) → cond t None (Some (flipped (plane_at n a))) ≡ option_map flipped (cond t None (Some (plane_at n a)))
     out true = refl

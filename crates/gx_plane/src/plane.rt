@@ -1,7 +1,9 @@
-ghost use Rattle.std.specs.Prelude.{◌≡◌, ◌<◌, ◌≤◌, ◌*◌, ◌<ℤ◌, ◌-ℤ◌, pos, unsigned_abs, int_div, All};
+ghost use Rattle.std.specs.Prelude.{◌≡◌, ◌<◌, ◌≤◌, ◌*◌, ◌<ℤ◌, pos, unsigned_abs, int_div, find, All};
 ghost use Rattle.gx_num.specs.Vector.{IsWithin, dot_of, difference_of};
 ghost use Rattle.gx_plane.specs.Plane.{reach, normal_reach, offset_reach, divisor_of, primitive, IsPrimitive, side_of, supports, flipped, normal_of, plane_with, plane_through, unit_along, plane_along};
+ghost use Rattle.gx_plane.specs.Between.{both_ways};
 
+use crate::between::first_of_three;
 use gx_num::{V3, gcd};
 use std::marker::Model;
 
@@ -51,6 +53,18 @@ impl Plane {
         with_normal(normal(a, b, c), a)
     }
 
+    /// The plane of three points, or else the same plane flipped, that no point is beyond. None where each has a point
+    /// beyond it, and where the three are collinear.
+    pub fn supporting(a: V3, b: V3, c: V3, points: &[V3]) -> Option<Plane>
+        requires first { IsWithin reach a }
+        requires second { IsWithin reach b }
+        requires third { IsWithin reach c }
+        requires within { All (IsWithin reach) points.now }
+        ensures { result ≡ find (λ h. supports h points.now) (both_ways (plane_through a b c)) }
+    {
+        first_of_three(a, b, c, points, &[])
+    }
+
     /// The same plane with the opposite normal.
     pub fn flip(self) -> Plane
         ensures { result ≡ flipped self }
@@ -80,7 +94,7 @@ impl Plane {
         ensures value { result ≡ side_of self.now p }
         ensures within { unsigned_abs result ≤ 2 * offset_reach }
     {
-        beyond(product(self.n, p), self.e)
+        side(self.n, self.e, p)
     }
 
     /// No point is beyond the plane.
@@ -88,12 +102,25 @@ impl Plane {
         requires { All (IsWithin reach) points.now }
         ensures { result ≡ supports self.now points.now }
     {
-        points.iter().all(|&p| self.side(p) <= 0)
+        bounds(self.n, self.e, points)
     }
 }
 
-// The plane through a point with a normal along this one; None where that is zero.
-fn with_normal(normal: V3, a: V3) -> Option<Plane>
+/// Above 0 where `p` is beyond the plane of the other three points, and 0 where all four are in one plane: six times the
+/// volume between them.
+pub fn determinant(a: V3, b: V3, c: V3, p: V3) -> i128
+    requires first { IsWithin reach a }
+    requires second { IsWithin reach b }
+    requires third { IsWithin reach c }
+    requires point { IsWithin reach p }
+    ensures value { result ≡ dot_of (normal_of a b c) (difference_of p a) }
+    ensures within { unsigned_abs result ≤ 2 * offset_reach }
+{
+    normal(a, b, c).dot(difference(p, a))
+}
+
+/// The plane through a point with a normal along this one; None where that is zero.
+pub fn with_normal(normal: V3, a: V3) -> Option<Plane>
     requires normal { IsWithin normal_reach normal }
     requires point { IsWithin reach a }
     ensures { result ≡ plane_with normal a }
@@ -129,7 +156,8 @@ fn difference(a: V3, b: V3) -> V3
     a.sub(b)
 }
 
-fn normal(a: V3, b: V3, c: V3) -> V3
+/// Orthogonal to the plane of three points.
+pub fn normal(a: V3, b: V3, c: V3) -> V3
     requires first { IsWithin reach a }
     requires second { IsWithin reach b }
     requires third { IsWithin reach c }
@@ -139,8 +167,8 @@ fn normal(a: V3, b: V3, c: V3) -> V3
     difference(b, a).cross(difference(c, a))
 }
 
-// The scalar product of a plane's normal and a point.
-fn product(n: V3, p: V3) -> i128
+/// The scalar product of a plane's normal and a point.
+pub fn product(n: V3, p: V3) -> i128
     requires normal { IsWithin normal_reach n }
     requires point { IsWithin reach p }
     ensures value { result ≡ dot_of n p }
@@ -149,13 +177,25 @@ fn product(n: V3, p: V3) -> i128
     n.dot(p)
 }
 
-fn beyond(product: i128, e: i128) -> i128
-    requires product { unsigned_abs product ≤ offset_reach }
-    requires level { unsigned_abs e ≤ offset_reach }
-    ensures value { result ≡ product -ℤ e }
+// `n . p - e`
+fn side(n: V3, e: i128, p: V3) -> i128
+    requires normal { IsWithin normal_reach n }
+    requires offset { unsigned_abs e ≤ offset_reach }
+    requires point { IsWithin reach p }
+    ensures value { result ≡ side_of (record { n = n; e = e }) p }
     ensures within { unsigned_abs result ≤ 2 * offset_reach }
 {
-    product - e
+    product(n, p) - e
+}
+
+/// No point is beyond `n . p = e`.
+pub fn bounds(n: V3, e: i128, points: &[V3]) -> bool
+    requires normal { IsWithin normal_reach n }
+    requires offset { unsigned_abs e ≤ offset_reach }
+    requires within { All (IsWithin reach) points.now }
+    ensures { result ≡ supports (record { n = n; e = e }) points.now }
+{
+    points.iter().all(|&p| side(n, e, p) <= 0)
 }
 
 fn magnitude(a: i64) -> u128

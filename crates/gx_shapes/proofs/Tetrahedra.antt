@@ -18,8 +18,9 @@ use Rattle.gx_shapes.specs.Shape.{inner, tetrahedron}
 use Rattle.gx_convex.specs.Hull.{IsAtMost, IsBound, IsHullOf}
 use Rattle.gx_convex.proofs.Bounds.{All-is_in, not_is_zero}
 use Rattle.gx_plane.proofs.Candidates.{normal_term}
-use Rattle.gx_convex.proofs.Coplanar.{volume, volume_term, volume_swap_third, AreLevel, Decides-triples}
+use Rattle.gx_convex.proofs.Coplanar.{volume, volume_term, volume_swap_third, AreInPlane, Decides-triples}
 use Rattle.gx_algebra.proofs.Lists.{All-four}
+use Rattle.gx_plane.proofs.PlaneFacts.{Decides-supports}
 use borrow.Author.Differences.{ints}
 
 abbrev plane_of : V3 → V3 → V3 → HalfSpace
@@ -153,19 +154,20 @@ tetrahedron_hull a b c d ne =
           (bound (inner b c d a) (on_a.plane (λ e. ne ((opposite_zero (volume_bcda a b c d)).0 e))) on_a.fourth (zero on_a.first) (zero on_a.second) (zero on_a.third));
       bounded = λ h s p w e.
           let all = All-is_in (tetrahedron a b c d) p e in
+          let behind = (Decides-supports h (four a b c d)).0 s in
           most (normal_dot h p) (h.e *ℤ p.w)
           (mean (volume a b c d) (excess h p) (side_of h a) (side_of h b) (side_of h c) (side_of h d) (pos 0 -ℤ excess (plane_of b c d) p) (excess (plane_of a c d) p) (pos 0 -ℤ excess (plane_of a b d) p) (excess (plane_of a b c) p) ne (barycentric a b c d h p)
           (other_sign (volume a b c d) (volume b c d a) (excess (plane_of b c d) p) (volume_bcda a b c d) (on_a.same_side p (all 3 h (omega arith))))
           (subst (λ (v : ℤ). pos 0 ≤ℤ (v *ℤ excess (plane_of a c d) p)) (volume_acdb a b c d) (on_b.same_side p (all 2 h (omega arith))))
           (other_sign (volume a b c d) (volume a b d c) (excess (plane_of a b d) p) (volume_swap_third a b c d) (on_c.same_side p (all 1 h (omega arith))))
           (on_d.same_side p (all 0 h (omega arith)))
-          (s 0 a (omega arith)) (s 1 a (omega arith)) (s 2 a (omega arith)) (s 3 a (omega arith)));
+          (behind 0 a (omega arith)) (behind 1 a (omega arith)) (behind 2 a (omega arith)) (behind 3 a (omega arith)));
     }
   where
     bound : (h : HalfSpace) → is_zero h.n ≡ false → side_of h a ≤ℤ pos 0 → side_of h b ≤ℤ pos 0 → side_of h c ≤ℤ pos 0 → side_of h d ≤ℤ pos 0 → IsBound (four a b c d) h
     bound h plane at_a at_b at_c at_d = record {
       plane = plane;
-      supports = All-four (λ p. side_of h p ≤ℤ pos 0) a b c d at_a at_b at_c at_d;
+      supports = (Decides-supports h (four a b c d)).1 (All-four (λ p. side_of h p ≤ℤ pos 0) a b c d at_a at_b at_c at_d);
     }
 
     zero : {x : ℤ} → x ≡ pos 0 → x ≤ℤ pos 0
@@ -177,12 +179,12 @@ tetrahedron_hull a b c d ne =
 -- ---- the volume isn't 0 where the points aren't coplanar
 pub tetrahedron_apart : (a b c d : V3) → are_coplanar (four a b c d) ≡ false → volume a b c d ≢ pos 0
 tetrahedron_apart a b c d solid e =
-    let flat = All-four (λ (t : V3 × V3 × V3). AreLevel (four a b c d) t.0 t.1 t.2) (a, b, c) (a, b, d) (a, c, d) (b, c, d)
+    let flat = All-four (λ (t : V3 × V3 × V3). AreInPlane (four a b c d) t.0 t.1 t.2) (a, b, c) (a, b, d) (a, c, d) (b, c, d)
     (level a b c (volume_first a b c) (volume_second a b c) (volume_third a b c) e)
     (level a b d (volume_first a b d) (volume_second a b d) ((opposite_zero (volume_swap_third a b c d)).1 e) (volume_third a b d))
     (level a c d (volume_first a c d) (volume_acdb a b c d ∙ e) (volume_second a c d) (volume_third a c d))
     (level b c d ((opposite_zero (volume_bcda a b c d)).1 e) (volume_first b c d) (volume_second b c d) (volume_third b c d)) in
     true≢false (sym ((Decides-triples (four a b c d)).1 flat) ∙ solid)
   where
-    level : (p q r : V3) → volume p q r a ≡ pos 0 → volume p q r b ≡ pos 0 → volume p q r c ≡ pos 0 → volume p q r d ≡ pos 0 → AreLevel (four a b c d) p q r
+    level : (p q r : V3) → volume p q r a ≡ pos 0 → volume p q r b ≡ pos 0 → volume p q r c ≡ pos 0 → volume p q r d ≡ pos 0 → AreInPlane (four a b c d) p q r
     level p q r at_a at_b at_c at_d = All-four (λ s. volume p q r s ≡ pos 0) a b c d at_a at_b at_c at_d

@@ -10,7 +10,9 @@ use Rattle.gx_algebra.proofs.Terms.{Term3, ◌≣◌, ◌⊕◌, ◌⊖◌, ◌�
 use Rattle.gx_algebra.proofs.Identity.{identity, number}
 use Rattle.gx_algebra.proofs.Order.{mul_pos, mul-neg, neg-mul-neg, mul-le-left, le_of_mul-le-left}
 use Rattle.gx_algebra.proofs.Laws.{neg-mul}
-use Rattle.gx_plane.specs.Plane.{Supports, side_of}
+use Rattle.gx_plane.specs.Plane.{side_of}
+use Rattle.gx_plane.proofs.PlaneFacts.{Decides-supports}
+use Rattle.gx_convex.proofs.Truth.{AreBehind}
 use Rattle.gx_convex.specs.Points.{are_coplanar}
 use Rattle.gx_shapes.specs.Shape.{half_space, point, box, trapezoid, corners}
 use Rattle.gx_convex.specs.Hull.{IsAtMost, IsBound, IsHullOf}
@@ -39,7 +41,7 @@ magnitude_reached (pos a) x = inl refl
 magnitude_reached (negsuc a) x = inr (sym (neg-mul-neg (pos (suc a)) x))
 
 -- its greatest value at the corners
-corners_reach : (nx ny nz e x y z : ℤ) → Supports (half_space nx ny nz e) (corners x y z) → ((magnitude nx *ℤ x +ℤ magnitude ny *ℤ y) +ℤ nz *ℤ z) ≤ℤ e
+corners_reach : (nx ny nz e x y z : ℤ) → AreBehind (half_space nx ny nz e) (corners x y z) → ((magnitude nx *ℤ x +ℤ magnitude ny *ℤ y) +ℤ nz *ℤ z) ≤ℤ e
 corners_reach nx ny nz e x y z s = go (magnitude_reached nx x) (magnitude_reached ny y)
   where
     p : V3
@@ -51,7 +53,7 @@ corners_reach nx ny nz e x y z s = go (magnitude_reached nx x) (magnitude_reache
     go (inr h) (inl k) = omega (arith, ints, h, k, s 2 p (omega arith))
     go (inl h) (inl k) = omega (arith, ints, h, k, s 3 p (omega arith))
 
-corners_support : (nx ny nz e x y z : ℤ) → pos 0 ≤ℤ x → pos 0 ≤ℤ y → ((magnitude nx *ℤ x +ℤ magnitude ny *ℤ y) +ℤ nz *ℤ z) ≤ℤ e → Supports (half_space nx ny nz e) (corners x y z)
+corners_support : (nx ny nz e x y z : ℤ) → pos 0 ≤ℤ x → pos 0 ≤ℤ y → ((magnitude nx *ℤ x +ℤ magnitude ny *ℤ y) +ℤ nz *ℤ z) ≤ℤ e → AreBehind (half_space nx ny nz e) (corners x y z)
 corners_support nx ny nz e x y z hx hy h =
     All-four (λ p. side_of (half_space nx ny nz e) p ≤ℤ pos 0) (point (neg_ℤ x) (neg_ℤ y) z) (point x (neg_ℤ y) z) (point (neg_ℤ x) y z) (point x y z)
     (omega (arith, ints, h, low nx x hx, low ny y hy))
@@ -86,7 +88,7 @@ weighted = identity (number ∷ number ∷ number ∷ number ∷ number ∷ numb
 weights : (c e z w : ℤ) → (pos 2 *ℤ c) *ℤ (e *ℤ w) ≡ (c *ℤ w -ℤ z) *ℤ e +ℤ (c *ℤ w +ℤ z) *ℤ e
 weights = identity (number ∷ number ∷ number ∷ number ∷ []) (λ c e z w. (num (pos 2) ⊗ c) ⊗ (e ⊗ w) ≣ (c ⊗ w ⊖ z) ⊗ e ⊕ (c ⊗ w ⊕ z) ⊗ e) tt
 
-frustum_bounded : (a1 a2 b1 b2 c : ℤ) (h : HalfSpace) (p : Vec4) → pos 0 <ℤ c → Supports h (frustum a1 a2 b1 b2 c) → IsBetween a1 a2 b1 b2 c p → IsAtMost h p
+frustum_bounded : (a1 a2 b1 b2 c : ℤ) (h : HalfSpace) (p : Vec4) → pos 0 <ℤ c → AreBehind h (frustum a1 a2 b1 b2 c) → IsBetween a1 a2 b1 b2 c p → IsAtMost h p
 frustum_bounded a1 a2 b1 b2 c h p hc s is =
     let parts = All-append_parts (λ q. side_of h q ≤ℤ pos 0) (corners a1 b1 (neg_ℤ c)) (corners a2 b2 c) s in
     let u = c *ℤ p.w -ℤ p.z in
@@ -153,9 +155,9 @@ pub record IsFrustum (a1 a2 b1 b2 c : ℤ) : Type 0 where
 frustum_bound : (a1 a2 b1 b2 c nx ny nz e : ℤ) (d : V3) → IsFrustum a1 a2 b1 b2 c → dot_of (point nx ny nz) d ≢ pos 0 → ((magnitude nx *ℤ a1 +ℤ magnitude ny *ℤ b1) +ℤ nz *ℤ neg_ℤ c) ≤ℤ e → ((magnitude nx *ℤ a2 +ℤ magnitude ny *ℤ b2) +ℤ nz *ℤ c) ≤ℤ e → IsBound (frustum a1 a2 b1 b2 c) (half_space nx ny nz e)
 frustum_bound a1 a2 b1 b2 c nx ny nz e d is ne low high = record {
   plane = not_is_zero (point nx ny nz) d ne;
-  supports = All-append (λ p. side_of (half_space nx ny nz e) p ≤ℤ pos 0) (corners a1 b1 (neg_ℤ c)) (corners a2 b2 c)
+  supports = (Decides-supports (half_space nx ny nz e) (frustum a1 a2 b1 b2 c)).1 (All-append (λ p. side_of (half_space nx ny nz e) p ≤ℤ pos 0) (corners a1 b1 (neg_ℤ c)) (corners a2 b2 c)
       (corners_support nx ny nz e a1 b1 (neg_ℤ c) is.x.first is.y.first low)
-      (corners_support nx ny nz e a2 b2 c is.x.second is.y.second high);
+      (corners_support nx ny nz e a2 b2 c is.x.second is.y.second high));
 }
 
 abbrev unit_x : V3
@@ -207,7 +209,7 @@ trapezoid_hull a1 a2 b1 b2 c is =
     record {
       bounds = All-from_recursion (IsBound (frustum a1 a2 b1 b2 c)) (trapezoid a1 a2 b1 b2 c)
           (side_x a1 a2 b1 b2 c (pos 2 *ℤ c) is (inl refl), (side_x a1 a2 b1 b2 c (neg_ℤ (pos 2 *ℤ c)) is (inr refl), (side_y a1 a2 b1 b2 c (pos 2 *ℤ c) is (inl refl), (side_y a1 a2 b1 b2 c (neg_ℤ (pos 2 *ℤ c)) is (inr refl), (ends.0, (ends.1, tt))))));
-      bounded = λ h s p w e. frustum_bounded a1 a2 b1 b2 c h p is.z s (trapezoid_between a1 a2 b1 b2 c p e);
+      bounded = λ h s p w e. frustum_bounded a1 a2 b1 b2 c h p is.z ((Decides-supports h (frustum a1 a2 b1 b2 c)).0 s) (trapezoid_between a1 a2 b1 b2 c p e);
     }
 
 pub box_hull : (a b c : ℤ) → IsFrustum a a b b c → IsHullOf (box a b c) (frustum a a b b c)
@@ -216,7 +218,7 @@ box_hull a b c is =
     record {
       bounds = All-from_recursion (IsBound (frustum a a b b c)) (box a b c)
           (face (pos 1) (pos 0) a unit_x (λ e. omega (arith, ints)) (omega (arith, ints)), (face (neg_ℤ (pos 1)) (pos 0) a unit_x (λ e. omega (arith, ints)) (omega (arith, ints)), (face (pos 0) (pos 1) b unit_y (λ e. omega (arith, ints)) (omega (arith, ints)), (face (pos 0) (neg_ℤ (pos 1)) b unit_y (λ e. omega (arith, ints)) (omega (arith, ints)), (ends.0, (ends.1, tt))))));
-      bounded = λ h s p w e. frustum_bounded a a b b c h p is.z s (box_between a b c p is.z e);
+      bounded = λ h s p w e. frustum_bounded a a b b c h p is.z ((Decides-supports h (frustum a a b b c)).0 s) (box_between a b c p is.z e);
     }
   where
     face : (nx ny e : ℤ) (d : V3) → dot_of (point nx ny (pos 0)) d ≢ pos 0 → (magnitude nx *ℤ a +ℤ magnitude ny *ℤ b) ≤ℤ e → IsBound (frustum a a b b c) (half_space nx ny (pos 0) e)

@@ -10,7 +10,7 @@ use Rattle.gx_convex.proofs.Distinct.{All-distinct}
 use Rattle.gx_hull.proofs.HullFacts.{hull_of-too_many}
 use Rattle.gx_hull.proofs.Loops.{drop-at, first_time, passed_over, kept_now}
 use Rattle.gx_hull.proofs.points.distinct.Goals as goal
-use Rattle.gx_hull.proofs.points.distinct.Goals.{then-not-is_among+else-len-eq-MOST+in_ok-push, else-not-is_among}
+use Rattle.gx_hull.proofs.points.distinct.Goals.{then-not-is_among+else-len-eq-MAX_VERTICES+in_ok-push, else-not-is_among}
 
 pub loop-p-preserved : goal.loop-p-preserved
 loop-p-preserved c =
@@ -19,7 +19,7 @@ loop-p-preserved c =
     let i = c.loop-p.p-index in
     let rest = ap (λ (ps : List V3). kept ++ distinct_by is_same (reverse kept) ps) (sym (drop-at points i _ c.loop-p-test.true)) ∙ c.loop-p.invariant.all in
     elim c.if-not-is_among.branch [
-      | then-not-is_among+else-len-eq-MOST+in_ok-push w ↦ record {
+      | then-not-is_among+else-len-eq-MAX_VERTICES+in_ok-push w ↦ record {
         all = kept_now is_same kept c.if-not-is_among.kept.items _ (drop (i + 1) points) (ap (λ v. v.items) w.kept-is ∙ w.in_ok-push.ensures.items) (rw c.deref.ensures.value at (sym c.is_among.ensures ∙ w.if-not-is_among.true)) ∙ rest;
         few = omega (arith, ap (λ v. length v.items) w.kept-is, ap length w.in_ok-push.ensures.items, length_push {X = V3}, c.loop-p.kept.ok.0);
       }
@@ -29,8 +29,8 @@ loop-p-preserved c =
       }
     ]
 
-pub returns-then-len-eq-MOST-clause-err : goal.returns-then-len-eq-MOST-clause-err
-returns-then-len-eq-MOST-clause-err c =
+pub returns-then-len-eq-MAX_VERTICES-clause-err : goal.returns-then-len-eq-MAX_VERTICES-clause-err
+returns-then-len-eq-MAX_VERTICES-clause-err c =
     let kept = c.loop-p.kept.items in
     let points = c.args.points.now in
     let i = c.loop-p.p-index in

@@ -1,14 +1,24 @@
-use Rattle.gx_plane.proofs.Search.{supports_is, flipped_supports_is, and_then, and_else}
+use Rattle.std.proofs.Common.{ℤ, ap, ◌∙◌, arith}
+use Rattle.gx_num.specs.Vector.{opposite_of}
+use Rattle.gx_num.specs.Space.{HalfSpace}
+use Rattle.gx_plane.specs.Plane.{normal_reach, supports, flipped}
+use Rattle.gx_plane.proofs.Determinants.{and_then}
+use Rattle.gx_plane.proofs.PlaneFacts.{plane_from}
+use Rattle.gx_plane.proofs.Sizes.{IsWithin-opposite_of}
+use borrow.Author.Differences.{ints}
 use Rattle.gx_plane.proofs.between.parts.Goals as goal
 
-pub returns-then-supports : goal.returns-then-supports
-returns-then-supports c =
-    let h = c.args.plane.now in
-    and_then c.supports.result c.supports-then-supports.result _ _
-    (supports_is h c.args.a.now c.supports.result c.supports.ensures)
-    (flipped_supports_is h c.args.b.now c.supports-then-supports.result (rw c.flip.ensures at c.supports-then-supports.ensures))
-    c.if-supports.true
+pub bounds-requires-then-bounds-clause-normal : goal.bounds-requires-then-bounds-clause-normal
+bounds-requires-then-bounds-clause-normal c = rw c.neg.ensures (IsWithin-opposite_of normal_reach c.args.normal c.requires.normal)
 
-pub returns-else-supports : goal.returns-else-supports
-returns-else-supports c =
-    and_else c.supports.result _ _ (supports_is c.args.plane.now c.args.a.now c.supports.result c.supports.ensures) c.if-supports.false
+pub bounds-requires-then-bounds-clause-offset : goal.bounds-requires-then-bounds-clause-offset
+bounds-requires-then-bounds-clause-offset c = let level = c.product-e.ensures.within in omega (arith, ints, level)
+
+pub returns-then-bounds : goal.returns-then-bounds
+returns-then-bounds c =
+    let product = c.product-e.ensures in
+    let h : HalfSpace = plane_from c.args.normal c.args.p in
+    and_then c.bounds.result c.bounds-then-bounds.result (supports h c.args.a.now) (supports (flipped h) c.args.b.now)
+    (c.bounds.ensures ∙ ap (λ (e : ℤ). supports (record { n = c.args.normal; e = e }) c.args.a.now) (omega (arith, ints, product.within, product.value)))
+    ((rw c.neg.ensures at c.bounds-then-bounds.ensures) ∙ ap (λ (e : ℤ). supports (record { n = opposite_of c.args.normal; e = e }) c.args.b.now) (omega (arith, ints, product.within, product.value)))
+    c.if-bounds.true

@@ -1,0 +1,9 @@
+pub mod Bounds
+pub mod Coplanar
+pub mod Cutting
+pub mod Distinct
+pub mod Extents
+pub mod FaceFacts
+pub mod Spanning
+pub mod Strict
+pub mod Truth
