@@ -46,8 +46,11 @@ impl Hierarchy {
 
     /// The world's solid.
     pub fn solid(&self) -> &Solid
-        ensures { result.now ≡ self.now.solid }
+        ensures value { result.now ≡ self.now.solid }
+        ensures shape { IsShape self.now.solid }
     {
-        &self.solid
+        let solid = &self.solid;
+        let _ = solid.hull();
+        solid
     }
 }
