@@ -1,7 +1,7 @@
 -- The plane through any three points of a list that are not collinear is a candidate, in whichever order the points are taken.
-use Rattle.std.proofs.Common.{◌≡◌, ◌⊎◌, inl, inr, ℕ, zero, suc, Bool, true, false, cond, Option, Some, None, List, [], ◌∷◌, map, flat_map, find, All, Contains, ℤ, pos, ◌-ℤ◌, refl, sym, ap, ◌∙◌, subst, arith}
+use Rattle.std.proofs.Common.{◌≡◌, ◌⊎◌, inl, inr, Option, Some, None, List, [], ◌∷◌, map, Contains, ℤ, pos, ◌-ℤ◌, sym, ap, ◌∙◌, subst, arith}
 use Rattle.std.specs.Option.{option_map}
-use Rattle.std.proofs.lemmas.List.Elements.{All-nil, All-cons, Contains-append_left, Contains-append_right}
+use Rattle.std.proofs.lemmas.List.Elements.{Contains-append_left, Contains-append_right}
 use Rattle.gx_num.specs.declared.vector.V3.{V3}
 use Rattle.gx_num.specs.Vector.{dot_of, difference_of, opposite_of}
 use Rattle.gx_num.specs.Space.{HalfSpace}
@@ -79,7 +79,15 @@ pairs-either (s ∷ points) q r in_q in_r = go (Contains-cases s points q in_q) 
 record HasTriple (points : List V3) (h : HalfSpace) : Type 0 where
   triple : V3 × V3 × V3
   in_list : Contains (triples_of points) triple
-  same : (plane_through triple.0 triple.1 triple.2 ≡ Some h) ⊎ (plane_through triple.0 triple.1 triple.2 ≡ Some (flipped h))
+  way : Contains (both_ways (plane_through triple.0 triple.1 triple.2)) h
+
+way-first : (p q r : V3) (h : HalfSpace) → plane_through p q r ≡ Some h → Contains (both_ways (plane_through p q r)) h
+way-first p q r h e = subst (λ (o : Option HalfSpace). Contains (both_ways o) h) (sym e) (Contains-head h (flipped h ∷ []))
+
+way-second : (p q r : V3) (h : HalfSpace) → plane_through p q r ≡ Some (flipped h) → Contains (both_ways (plane_through p q r)) h
+way-second p q r h e =
+    subst (λ (o : Option HalfSpace). Contains (both_ways o) h) (sym e)
+    (Contains-tail (flipped h) (flipped (flipped h) ∷ []) h (subst (λ (k : HalfSpace). Contains (k ∷ []) h) (sym (flipped-flipped h)) (Contains-head h [])))
 
 triples-any : (points : List V3) (p q r : V3) (h : HalfSpace) → Contains points p → Contains points q → Contains points r → plane_through p q r ≡ Some h → HasTriple points h
 triples-any [] p q r h in_p in_q in_r e = absurd (omega (arith, in_p.1))
@@ -100,18 +108,18 @@ triples-any (s ∷ points) p q r h in_p in_q in_r e =
           where
             not_twice : Some h ≡ None → ⊥
             not_twice z = cc
-        pick (inr (inl k)) = record { triple = (u, v, w); in_list = first u v w e k; same = inl through }
+        pick (inr (inl k)) = record { triple = (u, v, w); in_list = first u v w e k; way = way-first u v w h through }
         pick (inr (inr k)) = record {
           triple = (u, w, v);
           in_list = first u w v e k;
-          same = inr (plane_through-swap w u v ∙ ap (option_map flipped) (sym (plane_through-turn w u v) ∙ through));
+          way = way-second u w v h (plane_through-swap w u v ∙ ap (option_map flipped) (sym (plane_through-turn w u v) ∙ through));
         }
 
     later : HasTriple points h → HasTriple (s ∷ points) h
     later t = record {
       triple = t.triple;
       in_list = Contains-append_right (map (λ (t : V3 × V3). (s, t.0, t.1)) (pairs_of points)) (triples_of points) t.triple t.in_list;
-      same = t.same;
+      way = t.way;
     }
 
     twice : (u v w : V3) → u ≡ v → plane_through u v w ≡ Some h → ⊥
@@ -135,27 +143,7 @@ triples-any (s ∷ points) p q r h in_p in_q in_r e =
     go (inl f) (inr m) (inl g) rest = absurd (twice r p q (sym g ∙ f) rpq)
     go (inr l) (inl f) (inl g) rest = absurd (twice q r p (sym f ∙ g) qrp)
 
--- the plane of three points of a list and the same plane flipped are candidates
-pub record IsCandidate (points : List V3) (h : HalfSpace) : Type 0 where
-  pub itself : Contains (candidates points) h
-  pub other : Contains (candidates points) (flipped h)
-
-pub IsCandidate-through : (points : List V3) (p q r : V3) (h : HalfSpace) → Contains points p → Contains points q → Contains points r → plane_through p q r ≡ Some h → IsCandidate points h
-IsCandidate-through points p q r h in_p in_q in_r e = ways t.same
-  where
-    t : HasTriple points h
-    t = triples-any points p q r h in_p in_q in_r e
-
-    found : (k v : HalfSpace) → plane_through t.triple.0 t.triple.1 t.triple.2 ≡ Some k → Contains (both_ways (Some k)) v → Contains (candidates points) v
-    found k v is m =
-        Contains-flat_map (λ (t : V3 × V3 × V3). both_ways (plane_through t.0 t.1 t.2)) (triples_of points) t.triple v t.in_list (subst (λ (o : Option HalfSpace). Contains (both_ways o) v) (sym is) m)
-
-    ways : (plane_through t.triple.0 t.triple.1 t.triple.2 ≡ Some h) ⊎ (plane_through t.triple.0 t.triple.1 t.triple.2 ≡ Some (flipped h)) → IsCandidate points h
-    ways (inl is) = record {
-      itself = found h h is (Contains-head h (flipped h ∷ []));
-      other = found h (flipped h) is (Contains-tail h (flipped h ∷ []) (flipped h) (Contains-head (flipped h) []));
-    }
-    ways (inr is) = record {
-      itself = found (flipped h) h is (Contains-tail (flipped h) (flipped (flipped h) ∷ []) h (subst (λ (k : HalfSpace). Contains (k ∷ []) h) (sym (flipped-flipped h)) (Contains-head h [])));
-      other = found (flipped h) (flipped h) is (Contains-head (flipped h) (flipped (flipped h) ∷ []));
-    }
+pub Contains-candidates : (points : List V3) (p q r : V3) (h : HalfSpace) → Contains points p → Contains points q → Contains points r → plane_through p q r ≡ Some h → Contains (candidates points) h
+Contains-candidates points p q r h in_p in_q in_r e =
+    let t = triples-any points p q r h in_p in_q in_r e in
+    Contains-flat_map (λ (t : V3 × V3 × V3). both_ways (plane_through t.0 t.1 t.2)) (triples_of points) t.triple h t.in_list t.way

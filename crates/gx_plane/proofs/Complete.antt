@@ -1,10 +1,10 @@
 -- Where any plane of whole numbers is between two lists of points, a candidate is: it tilts to one.
-use Rattle.std.proofs.Common.{◌≡◌, ◌⊎◌, inl, inr, ◌<◌, Bool, true, false, ◌&&◌, Option, Some, None, List, [], ◌∷◌, ◌++◌, map, find, All, Contains, cond, ℤ, pos, negsuc, ◌-ℤ◌, ◌*ℤ◌, ◌≤ℤ◌, ◌<ℤ◌, int_le, refl, sym, ap, ◌∙◌, subst, append-nil, arith, true≢false}
+use Rattle.std.proofs.Common.{◌≡◌, ◌⊎◌, inl, inr, Bool, true, false, ◌&&◌, Option, Some, None, List, [], ◌∷◌, ◌++◌, map, find, All, Contains, cond, ℤ, pos, negsuc, ◌-ℤ◌, ◌*ℤ◌, ◌≤ℤ◌, ◌<ℤ◌, int_le, refl, sym, ap, ◌∙◌, subst, append-nil, arith, true≢false}
 use Rattle.std.specs.Bool.{Decides}
 use Rattle.std.proofs.lemmas.Bool.Decides.{Decides-and, Decides-like, Decides-by_and}
 use Rattle.std.proofs.lemmas.List.Elements.{All-append, All-map, All-weaker, Contains-append_left, Contains-append_right, Contains-append_cases}
 use Rattle.gx_num.specs.declared.vector.V3.{V3}
-use Rattle.gx_num.specs.Vector.{dot_of, times3}
+use Rattle.gx_num.specs.Vector.{times3}
 use Rattle.gx_num.specs.Space.{HalfSpace}
 use Rattle.gx_num.specs.Vector4.{Vec4, dot4, times4, opposite4, minors}
 use Rattle.gx_algebra.proofs.Lists.{All-append_parts, All-from_map, Contains-unmap, Contains-cases}
@@ -12,14 +12,13 @@ use Rattle.gx_algebra.proofs.Ring.{num}
 use Rattle.gx_algebra.proofs.Terms as term
 use Rattle.gx_algebra.proofs.Terms.{Term3, Term4, ◌≣◌, ◌≣⁴◌, ◌⊕◌, ◌⊖◌, ◌⊗◌, none}
 use Rattle.gx_algebra.proofs.Identity.{identity, identity4, number, vector3, vector4, half_space}
-use Rattle.gx_algebra.proofs.Identities.{dot4-times4}
 use Rattle.gx_algebra.proofs.Order.{nonneg_of_mul, pos_of_mul}
 use Rattle.gx_plane.specs.Laws.{IsAbove, Spans, IsBeyond, IsFromThree}
 use Rattle.gx_plane.specs.Plane.{divisor_of, primitive, side_of, supports, flipped, normal_of, plane_through}
 use Rattle.gx_plane.specs.Between.{is_between, candidates}
 use Rattle.gx_plane.proofs.ExtremeRays.{tilted}
 use Rattle.gx_plane.proofs.PlaneFacts.{plane_from, Decides-int_le, times3-primitive, side_of-flipped, plane_through_some, plane_through_none}
-use Rattle.gx_plane.proofs.Candidates.{normal_term, IsCandidate-through}
+use Rattle.gx_plane.proofs.Candidates.{normal_term, Contains-candidates}
 use borrow.Author.Differences.{ints}
 
 -- ---- planes and points as vectors of four numbers
@@ -213,12 +212,14 @@ tilted_between a b h g spans is = from (tilted (sides a b) g spans (lifted h) is
     at_points w isb o (Some k) e =
         let through = plane_through_some o.p o.q o.r k e in
         let d = divisor_of (normal_of o.p o.q o.r) in
-        let product : (m : Vec4) → dot4 m w ≡ pos d *ℤ dot4 m (lifted k) = λ m. ap (dot4 m) o.same ∙ product_primitive m (normal_of o.p o.q o.r) o.p ∙ ap (λ (j : HalfSpace). pos d *ℤ dot4 m (lifted j)) (sym through.same) in
-        (k, record {
-          candidate = (IsCandidate-through (a ++ b) o.p o.q o.r k o.in_p o.in_q o.in_r e).itself;
-          between = (Decides-is_between a b k).1 (All-weaker (λ m. pos 0 ≤ℤ dot4 m w) (λ m. pos 0 ≤ℤ dot4 m (lifted k)) (λ m le. nonneg_of_mul (pos d) (dot4 m (lifted k)) (omega (arith, ints, through.apart)) (omega (arith, ints, le, product m))) (sides a b) isb.above);
-          beyond = pos_of_mul (pos d) (dot4 g (lifted k)) (omega (arith, ints)) (omega (arith, ints, isb.beyond, product g));
-        })
+        let product : (m : Vec4) → dot4 m w ≡ pos d *ℤ dot4 m (lifted k) = λ m. ap (dot4 m) o.same ∙ product_primitive m (normal_of o.p o.q o.r) o.p ∙ ap (λ (j : HalfSpace). pos d *ℤ dot4 m (lifted j)) (sym through.same) in (
+          k,
+          record {
+            candidate = Contains-candidates (a ++ b) o.p o.q o.r k o.in_p o.in_q o.in_r e;
+            between = (Decides-is_between a b k).1 (All-weaker (λ m. pos 0 ≤ℤ dot4 m w) (λ m. pos 0 ≤ℤ dot4 m (lifted k)) (λ m le. nonneg_of_mul (pos d) (dot4 m (lifted k)) (omega (arith, ints, through.apart)) (omega (arith, ints, le, product m))) (sides a b) isb.above);
+            beyond = pos_of_mul (pos d) (dot4 g (lifted k)) (omega (arith, ints)) (omega (arith, ints, isb.beyond, product g));
+          },
+        )
 
     from : (w : Vec4) × IsBeyond (sides a b) g w × IsFromThree (sides a b) w → (k : HalfSpace) × IsBetweenBeyond a b g k
     from (w, isb, three) =
@@ -250,12 +251,14 @@ pub record IsSupportingBeyond (points : List V3) (g : Vec4) (h : HalfSpace) : Ty
 -- the same for one list
 pub tilted_supporting : (points : List V3) (h : HalfSpace) (g : Vec4) → Spans (map within points) → supports h points ≡ true → pos 0 <ℤ dot4 g (lifted h) → (k : HalfSpace) × IsSupportingBeyond points g k
 tilted_supporting points h g spans s beyond =
-    let k = tilted_between points [] h g (subst Spans (sym (append-nil (map within points))) spans) (record { above = (Decides-is_between points [] h).0 (rw s refl); beyond = beyond }) in
-    (k.0, record {
-      candidate = subst (λ ps. Contains (candidates ps) k.0) (append-nil points) k.1.candidate;
-      supporting = left (supports k.0 points) k.1.between;
-      beyond = k.1.beyond;
-    })
+    let k = tilted_between points [] h g (subst Spans (sym (append-nil (map within points))) spans) (record { above = (Decides-is_between points [] h).0 (rw s refl); beyond = beyond }) in (
+      k.0,
+      record {
+        candidate = subst (λ ps. Contains (candidates ps) k.0) (append-nil points) k.1.candidate;
+        supporting = left (supports k.0 points) k.1.between;
+        beyond = k.1.beyond;
+      },
+    )
   where
     left : (s : Bool) → (s && true) ≡ true → s ≡ true
     left true e = refl

@@ -1,5 +1,5 @@
 -- Which of the two senses of a plane is between two lists, by a normal that is not made primitive: the signs of sides are the same.
-use Rattle.std.proofs.Common.{◌≡◌, ℕ, ◌<◌, Bool, true, false, cond, ◌&&◌, Option, Some, None, List, [], ◌∷◌, find, ℤ, pos, ◌-ℤ◌, ◌*ℤ◌, ◌≤ℤ◌, int_le, refl, sym, ap, ap₂, ◌∙◌, arith, true≢false}
+use Rattle.std.proofs.Common.{◌≡◌, ℕ, ◌<◌, Bool, true, false, cond, ◌&&◌, Option, None, List, [], ◌∷◌, find, ℤ, pos, ◌-ℤ◌, ◌*ℤ◌, int_le, refl, sym, ap, ap₂, ◌∙◌, arith, true≢false}
 use Rattle.std.specs.Option.{option_map}
 use Rattle.std.specs.List.{list_all}
 use Rattle.std.proofs.lemmas.Bool.Decides.{same_from_decides, Decides-like}
@@ -86,6 +86,10 @@ module _ (a b : List V3) (p q r n : V3) (is : n ≡ normal_of p q r) where
 
   pub found_none : is_between a b (plane_from n p) ≡ false → is_between a b (plane_from (opposite_of n) p) ≡ false → None ≡ find (is_between a b) (both_ways (plane_through p q r))
   found_none e f = sym (ways ∙ ap₂ (λ (s t : Bool). cond s (plane_with n p) (cond t (plane_with (opposite_of n) p) None)) e f)
+
+-- a test that was made with equal numbers
+pub same-test : (a b : List V3) (n p m : V3) (e : ℤ) (s t : Bool) → s ≡ is_between a b (record { n = m; e = e }) → m ≡ n → e ≡ dot_of n p → s ≡ t → is_between a b (plane_from n p) ≡ t
+same-test a b n p m e s t is normal level found = sym (rw (normal, level) at is) ∙ found
 
 -- between a list and no point is what supports the list
 pub find-supports : (points : List V3) (hs : List HalfSpace) → find (is_between points []) hs ≡ find (λ h. supports h points) hs

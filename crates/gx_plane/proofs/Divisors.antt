@@ -6,7 +6,7 @@ use Rattle.std.proofs.Math.Nat.{one-dvd, eq-zero_of_zero-dvd, mul-dvd-mul_left, 
 use Rattle.gx_num.specs.declared.vector.V3.{V3}
 use Rattle.gx_num.specs.Number.{common_divisor}
 use Rattle.gx_num.specs.Vector.{IsWithin, opposite_of}
-use Rattle.gx_num.proofs.Divisors.{DividesAll, zero_or_pos, IsDivisor, IsDivisor-cons, IsDivisor-two, IsDivisor-common_divisor, common_divisor-same}
+use Rattle.gx_num.proofs.Divisors.{DividesAll, zero_or_pos, IsDivisor-cons, IsDivisor-two, IsDivisor-common_divisor, common_divisor-same}
 use Rattle.gx_plane.specs.Plane.{divisor_of, primitive, IsPrimitive, is_zero}
 use borrow.Author.Differences.{ints}
 

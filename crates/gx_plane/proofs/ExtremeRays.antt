@@ -1,6 +1,6 @@
 -- A vector above a list is moved, along directions orthogonal to g and to the members met, until it meets three members: then it is a
 -- multiple of their minors.
-use Rattle.std.proofs.Common.{get_or, ◌≡◌, ◌≢◌, ◌⊎◌, inl, inr, suc, ℤ, pos, ◌+ℤ◌, ◌-ℤ◌, ◌*ℤ◌, ◌≤ℤ◌, ◌<ℤ◌, List, [], ◌∷◌, All, Contains, refl, ap, ◌∙◌, arith}
+use Rattle.std.proofs.Common.{get_or, ◌≡◌, ◌≢◌, ◌⊎◌, inl, inr, ℤ, pos, ◌+ℤ◌, ◌-ℤ◌, ◌*ℤ◌, ◌≤ℤ◌, ◌<ℤ◌, List, [], ◌∷◌, All, Contains, refl, ap, ◌∙◌, arith}
 use Rattle.std.proofs.lemmas.List.Elements.{All-nil, All-cons, All-head, All-tail, All-weaker, All-contains}
 use Rattle.std.proofs.lemmas.Int.{by_lt_z}
 use Rattle.gx_num.specs.Vector4.{Vec4, origin, dot4, plus4, times4, opposite4, minors, det4}
@@ -10,6 +10,7 @@ use Rattle.gx_algebra.proofs.Terms.{Term4, ◌≣◌, ◌⊕◌, ◌⊖◌, ◌�
 use Rattle.gx_algebra.proofs.Laws.{mul-zero}
 use Rattle.gx_algebra.proofs.Identity.{identity, number, vector4}
 use Rattle.gx_algebra.proofs.Identities.{same4, dot4_comm, dot4-opposite4, dot4-origin, dot4-minors_first, dot4-minors_second, dot4-minors_third, cramer}
+use Rattle.gx_algebra.proofs.Lists.{Contains-head, Contains-tail}
 use Rattle.gx_algebra.proofs.Order.{by_sign, mul_nonneg, mul_pos, nonneg_of_mul}
 use borrow.Author.Differences.{ints}
 use Rattle.gx_plane.specs.Laws.{IsAbove, Spans, IsBeyond, IsFromThree}
@@ -50,12 +51,6 @@ sooner : (h m d v q : Vec4) → dot4 h d <ℤ pos 0 → dot4 m d <ℤ pos 0 → 
 sooner h m d v q hd md mv qv before after =
     rw (dot4-met q m d v)
     (sooner_numbers (dot4 h d) (dot4 m d) (dot4 q d) (dot4 h v) (dot4 m v) (dot4 q v) hd qv mv md (rw (dot4-met m h d v) at before) (rw (dot4-met q h d v) at after))
-
-Contains-more : (m h : Vec4) (members : List Vec4) → Contains members h → Contains (m ∷ members) h
-Contains-more m h members c = (suc c.0, omega (arith, c.1), c.2)
-
-Contains-head : (m : Vec4) (members : List Vec4) → Contains (m ∷ members) m
-Contains-head m members = (0, omega arith, refl)
 
 both : (P Q R : Vec4 → Type 0) (members : List Vec4) → ((q : Vec4) → P q → Q q → R q) → All P members → All Q members → All R members
 both P Q R members f h k = λ i e lt. f (get_or members i e) (h i e lt) (k i e lt)
@@ -103,7 +98,7 @@ first (m ∷ members) d v above = go (first members d v (All-tail (λ a. pos 0 �
         (λ le. inr (
           h,
           record {
-            in_list = Contains-more m h members is.in_list;
+            in_list = Contains-tail m members h is.in_list;
             falls = is.falls;
             above = All-cons (λ q. pos 0 ≤ℤ dot4 q (met h d v)) m members le is.above;
           },

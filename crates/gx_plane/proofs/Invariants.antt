@@ -1,21 +1,19 @@
 -- The planes that are made here keep what each plane keeps.
-use Rattle.std.proofs.Common.{◌≡◌, ℕ, zero, suc, ◌≤◌, ◌<◌, Some, None, ℤ, pos, ◌-ℤ◌, unsigned_abs, refl, sym, ap, ◌∙◌, arith}
+use Rattle.std.proofs.Common.{◌≡◌, ℕ, zero, suc, ◌≤◌, ◌<◌, Some, None, ℤ, unsigned_abs, refl, sym, ap, ◌∙◌, arith}
 use Rattle.gx_num.specs.declared.vector.V3.{V3}
 use Rattle.gx_num.specs.Number.{common_divisor}
 use Rattle.gx_num.specs.Vector.{IsWithin, dot_of, opposite_of}
 use Rattle.gx_num.specs.Space.{HalfSpace}
 use Rattle.gx_plane.specs.Plane.{reach, normal_reach, offset_reach, divisor_of, primitive, IsPlane, plane_at, plane_with, unit_along}
-use Rattle.gx_plane.proofs.Divisors.{unsigned_abs-opposite, divisor_of-opposite, IsPrimitive-primitive, IsWithin-primitive, is_zero-divisor_of, not_zero-divisor_of}
-use Rattle.gx_plane.proofs.Sizes.{IsWithin-opposite_of}
+use Rattle.gx_plane.proofs.Divisors.{divisor_of-opposite, IsPrimitive-primitive, IsWithin-primitive, is_zero-divisor_of, not_zero-divisor_of}
 use Rattle.gx_plane.proofs.PlaneFacts.{plane_with-zero, plane_with-apart}
 
-pub IsPlane-opposite : (h : HalfSpace) (n : V3) (e : ℤ) → n ≡ opposite_of h.n → e ≡ pos 0 -ℤ h.e → IsPlane h → IsPlane (record { n = n; e = e })
-IsPlane-opposite h n e is level p =
-    rw (is, level) (record {
-      primitive = record { divisor = divisor_of-opposite h.n ∙ p.primitive.divisor };
-      within = IsWithin-opposite_of normal_reach h.n p.within;
-      offset_within = omega (arith, unsigned_abs-opposite h.e, p.offset_within);
-    })
+pub IsPlane-opposite : (h : HalfSpace) (n : V3) (e : ℤ) → n ≡ opposite_of h.n → IsWithin normal_reach n → unsigned_abs e ≤ offset_reach → IsPlane h → IsPlane (record { n = n; e = e })
+IsPlane-opposite h n e is within offset p = record {
+  primitive = record { divisor = ap divisor_of is ∙ divisor_of-opposite h.n ∙ p.primitive.divisor };
+  within = within;
+  offset_within = offset;
+}
 
 unit_along-divisor : (axis : ℕ) → axis < 3 → divisor_of (unit_along axis) ≡ 1
 unfolding common_divisor
@@ -40,8 +38,8 @@ IsPlane-along axis n e lt is h =
     })
 
 pub IsPlane-with : (v n : V3) (e : ℤ) → 0 < divisor_of v → IsWithin normal_reach v → n ≡ primitive v → unsigned_abs e ≤ offset_reach → IsPlane (record { n = n; e = e })
-IsPlane-with v n e lt w is h =
-    rw is (record { primitive = IsPrimitive-primitive v lt; within = IsWithin-primitive v normal_reach w; offset_within = h })
+IsPlane-with v n e lt within is offset =
+    rw is (record { primitive = IsPrimitive-primitive v lt; within = IsWithin-primitive v normal_reach within; offset_within = offset })
 
 -- ---- the plane with a normal, from what the code computes
 pub none-plane_with : (v a : V3) → divisor_of v ≡ 0 → None ≡ plane_with v a

@@ -1,5 +1,5 @@
 -- The triples of points that are still to come, and what holds of the points of all of them.
-use Rattle.std.proofs.Common.{◌≡◌, List, [], ◌∷◌, ◌++◌, map, flat_map, find, Bool, Option, Some, None, is_some, true, false, All, refl, sym, ap, ◌∙◌, subst, append_assoc, true≢false}
+use Rattle.std.proofs.Common.{◌≡◌, List, [], ◌∷◌, ◌++◌, map, flat_map, find, Bool, Option, Some, None, All, sym, ap, ◌∙◌, subst, append_assoc}
 use Rattle.std.specs.Option.{option_or}
 use Rattle.std.proofs.lemmas.List.{map-append}
 use Rattle.std.proofs.lemmas.List.Elements.{All-nil, All-head, All-tail, All-append, All-map, All-weaker}
@@ -53,23 +53,16 @@ All-first P p q r triples rest is h =
 abbrev pub planes_of : List (V3 × V3 × V3) → List HalfSpace
 planes_of triples = flat_map (λ t. both_ways (plane_through t.0 t.1 t.2)) triples
 
-module _ (test : HalfSpace → Bool) (p q r : V3) (triples rest : List (V3 × V3 × V3)) (o : Option HalfSpace) (is : triples ≡ (p, q, r) ∷ rest) (first : o ≡ find test (both_ways (plane_through p q r))) where
-  split : find test (planes_of triples) ≡ option_or o (find test (planes_of rest))
-  split =
-      ap (λ ts. find test (planes_of ts)) is ∙ find-append test (both_ways (plane_through p q r)) (planes_of rest) ∙ ap (λ (a : Option HalfSpace). option_or a (find test (planes_of rest))) (sym first)
+first-planes : (test : HalfSpace → Bool) (p q r : V3) (triples rest : List (V3 × V3 × V3)) → triples ≡ (p, q, r) ∷ rest → find test (planes_of triples) ≡ option_or (find test (both_ways (plane_through p q r))) (find test (planes_of rest))
+first-planes test p q r triples rest is =
+    ap (λ ts. find test (planes_of ts)) is ∙ find-append test (both_ways (plane_through p q r)) (planes_of rest)
 
-  -- what is found at a triple is the first of all from there
-  pub found_here : is_some o ≡ true → o ≡ find test (planes_of triples)
-  found_here found = sym (split ∙ some o found)
-    where
-      some : (o : Option HalfSpace) → is_some o ≡ true → option_or o (find test (planes_of rest)) ≡ o
-      some (Some h) e = refl
-      some None e = absurd (true≢false (sym e))
+-- what is found at a triple is the first of all from there
+pub found_here : (test : HalfSpace → Bool) (p q r : V3) (triples rest : List (V3 × V3 × V3)) (h : HalfSpace) → triples ≡ (p, q, r) ∷ rest → Some h ≡ find test (both_ways (plane_through p q r)) → Some h ≡ find test (planes_of triples)
+found_here test p q r triples rest h is found =
+    sym (first-planes test p q r triples rest is ∙ ap (λ (o : Option HalfSpace). option_or o (find test (planes_of rest))) (sym found))
 
-  -- where nothing is found at it, the first is behind it
-  pub none_here : is_some o ≡ false → find test (planes_of rest) ≡ find test (planes_of triples)
-  none_here missing = sym (split ∙ none o missing)
-    where
-      none : (o : Option HalfSpace) → is_some o ≡ false → option_or o (find test (planes_of rest)) ≡ find test (planes_of rest)
-      none (Some h) e = absurd (true≢false e)
-      none None e = refl
+-- where nothing is found at it, the first is behind it
+pub none_here : (test : HalfSpace → Bool) (p q r : V3) (triples rest : List (V3 × V3 × V3)) → triples ≡ (p, q, r) ∷ rest → None ≡ find test (both_ways (plane_through p q r)) → find test (planes_of rest) ≡ find test (planes_of triples)
+none_here test p q r triples rest is missing =
+    sym (first-planes test p q r triples rest is ∙ ap (λ (o : Option HalfSpace). option_or o (find test (planes_of rest))) (sym missing))

@@ -1,9 +1,9 @@
-ghost use Rattle.std.specs.Prelude.{◌≡◌, ◌++◌, find, All};
-ghost use Rattle.gx_num.specs.Vector.{IsWithin, dot_of};
-ghost use Rattle.gx_plane.specs.Plane.{reach, normal_reach, plane_through};
+ghost use Rattle.std.specs.Prelude.{◌≡◌, ◌≤◌, ◌++◌, unsigned_abs, find, All};
+ghost use Rattle.gx_num.specs.Vector.{IsWithin};
+ghost use Rattle.gx_plane.specs.Plane.{reach, normal_reach, offset_reach, plane_through};
 ghost use Rattle.gx_plane.specs.Between.{is_between, both_ways, candidates};
 
-use crate::plane::{bounds, normal, product, with_normal};
+use crate::plane::{bounds, normal, opposite, product, with_normal};
 use crate::{Plane, Triples};
 use gx_num::V3;
 
@@ -15,9 +15,8 @@ pub fn first_triple_between(a: &[V3], b: &[V3]) -> Option<Plane>
     ensures { result ≡ find (is_between a.now b.now) (candidates (a.now ++ b.now)) }
 {
     for (p, q, r) in Triples::new(a, b) {
-        let found = first_of_three(p, q, r, a, b);
-        if found.is_some() {
-            return found;
+        if let Some(plane) = first_of_three(p, q, r, a, b) {
+            return Some(plane);
         }
     }
     None
@@ -34,24 +33,24 @@ pub fn first_of_three(p: V3, q: V3, r: V3, a: &[V3], b: &[V3]) -> Option<Plane>
 {
     // By the signs of determinants: only a plane that is found gets a primitive normal.
     let normal = normal(p, q, r);
-    if parts(normal, p, a, b) {
+    let e = product(normal, p);
+    if parts(normal, e, a, b) {
         return with_normal(normal, p);
     }
-    let opposite = normal.neg();
-    if parts(opposite, p, a, b) {
+    let opposite = opposite(normal);
+    if parts(opposite, -e, a, b) {
         return with_normal(opposite, p);
     }
     None
 }
 
-// The plane through a point with this normal is between.
-fn parts(normal: V3, p: V3, a: &[V3], b: &[V3]) -> bool
-    requires normal { IsWithin normal_reach normal }
-    requires point { IsWithin reach p }
+// The plane `n . x = e` is between.
+fn parts(n: V3, e: i128, a: &[V3], b: &[V3]) -> bool
+    requires normal { IsWithin normal_reach n }
+    requires offset { unsigned_abs e ≤ offset_reach }
     requires within { All (IsWithin reach) a.now }
     requires others_within { All (IsWithin reach) b.now }
-    ensures { result ≡ is_between a.now b.now (record { n = normal; e = dot_of normal p }) }
+    ensures { result ≡ is_between a.now b.now (record { n = n; e = e }) }
 {
-    let e = product(normal, p);
-    bounds(normal, e, a) && bounds(normal.neg(), -e, b)
+    bounds(n, e, a) && bounds(opposite(n), -e, b)
 }

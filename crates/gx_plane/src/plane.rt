@@ -1,5 +1,5 @@
 ghost use Rattle.std.specs.Prelude.{◌≡◌, ◌<◌, ◌≤◌, ◌*◌, ◌<ℤ◌, pos, unsigned_abs, int_div, find, All};
-ghost use Rattle.gx_num.specs.Vector.{IsWithin, dot_of, difference_of};
+ghost use Rattle.gx_num.specs.Vector.{IsWithin, dot_of, difference_of, opposite_of};
 ghost use Rattle.gx_plane.specs.Plane.{reach, normal_reach, offset_reach, divisor_of, primitive, IsPrimitive, side_of, supports, flipped, normal_of, plane_with, plane_through, unit_along, plane_along};
 ghost use Rattle.gx_plane.specs.Between.{both_ways};
 
@@ -70,7 +70,7 @@ impl Plane {
         ensures { result ≡ flipped self }
     {
         Plane {
-            n: self.n.neg(),
+            n: opposite(self.n),
             e: -self.e,
         }
     }
@@ -165,6 +165,15 @@ pub fn normal(a: V3, b: V3, c: V3) -> V3
     ensures within { IsWithin normal_reach result }
 {
     difference(b, a).cross(difference(c, a))
+}
+
+/// The opposite normal.
+pub fn opposite(n: V3) -> V3
+    requires { IsWithin normal_reach n }
+    ensures value { result ≡ opposite_of n }
+    ensures within { IsWithin normal_reach result }
+{
+    n.neg()
 }
 
 /// The scalar product of a plane's normal and a point.

@@ -1,4 +1,4 @@
-use Rattle.std.proofs.Common.{ap, sym, ◌∙◌, ◌++◌, find, All}
+use Rattle.std.proofs.Common.{ap, sym, ◌∙◌, ◌++◌, find}
 use Rattle.std.proofs.lemmas.List.Elements.{All-append}
 use Rattle.gx_num.specs.Vector.{IsWithin}
 use Rattle.gx_plane.specs.Plane.{reach}
@@ -16,25 +16,27 @@ loop-p-init c =
       within = rw all (All-triples_of (IsWithin reach) (a ++ b) (All-append (IsWithin reach) a b c.requires.within c.requires.others_within));
     }
 
-pub first_of_three-found-requires-clause-first : goal.first_of_three-found-requires-clause-first
-first_of_three-found-requires-clause-first c = (All-first (IsWithin reach) _ _ _ _ _ c.in-Some.ensures.steps c.loop-p.invariant.within).0
+pub first_of_three-requires : goal.first_of_three-requires
+first_of_three-requires c =
+    let points = All-first (IsWithin reach) _ _ _ _ _ c.in-Some.ensures.steps c.loop-p.invariant.within in
+    record {
+      first = points.0;
+      second = points.1;
+      third = points.2;
+      within = c.requires.within;
+      others_within = c.requires.others_within;
+    }
 
-pub first_of_three-found-requires-clause-second : goal.first_of_three-found-requires-clause-second
-first_of_three-found-requires-clause-second c = (All-first (IsWithin reach) _ _ _ _ _ c.in-Some.ensures.steps c.loop-p.invariant.within).1
-
-pub first_of_three-found-requires-clause-third : goal.first_of_three-found-requires-clause-third
-first_of_three-found-requires-clause-third c = (All-first (IsWithin reach) _ _ _ _ _ c.in-Some.ensures.steps c.loop-p.invariant.within).2
-
-pub returns-then-is_some : goal.returns-then-is_some
-returns-then-is_some c =
-    found_here (is_between c.args.a.now c.args.b.now) c.in-Some.p c.in-Some.q c.in-Some.r _ _ _ c.in-Some.ensures.steps c.first_of_three-found.ensures
-    (sym c.is_some.ensures ∙ c.if-is_some.true)
+pub returns-in-Some-first_of_three : goal.returns-in-Some-first_of_three
+returns-in-Some-first_of_three c =
+    found_here (is_between c.args.a.now c.args.b.now) c.in-Some.p c.in-Some.q c.in-Some.r _ _ _ c.in-Some.ensures.steps
+    (sym c.in-Some-first_of_three.is ∙ c.first_of_three.ensures)
     ∙ c.loop-p.invariant.first
 
 pub loop-p-preserved : goal.loop-p-preserved
 loop-p-preserved c = record {
-  first = none_here (is_between c.args.a.now c.args.b.now) c.in-Some.p c.in-Some.q c.in-Some.r _ _ _ c.in-Some.ensures.steps c.first_of_three-found.ensures
-      (sym c.is_some.ensures ∙ c.if-is_some.false)
+  first = none_here (is_between c.args.a.now c.args.b.now) c.in-Some.p c.in-Some.q c.in-Some.r _ _ c.in-Some.ensures.steps
+      (sym c.in_default.is ∙ c.first_of_three.ensures)
       ∙ c.loop-p.invariant.first;
   within = (All-first (IsWithin reach) _ _ _ _ _ c.in-Some.ensures.steps c.loop-p.invariant.within).3;
 }
