@@ -19,6 +19,7 @@ abbrev pub IsBefore : RayParameter → Option RayParameter → Type 0
 IsBefore t None = Unit {0}
 IsBefore t (Some to) = IsBelow t to
 
+-- the parameter is in the interval
 abbrev pub Holds : Option Interval → RayParameter → Type 0
 Holds None t = ⊥
 Holds (Some i) t = IsBelow i.from t × IsBefore t i.to

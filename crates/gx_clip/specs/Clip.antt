@@ -26,7 +26,7 @@ pub record IsInsideBetween (solid : List HalfSpace) (ray : Ray) (from to : RayPa
   pub ordered : IsBelow from to
   pub inside : (t : RayParameter) → IsPositive t → IsTrue (is_inside solid (point_of_ray ray t)) ↔ (IsBelow from t × IsBelow t to)
 
--- the part of the ray above 0 that is inside: nothing, or a span
+-- the part of the ray above 0 that is inside: a span, or nothing where it is inside nowhere
 abbrev pub IsClip : List HalfSpace → Ray → Option Span → Type 0
 IsClip solid ray None = (t : RayParameter) → IsPositive t → is_inside solid (point_of_ray ray t) ≡ false
 IsClip solid ray (Some span) = IsInsideBetween solid ray (parameter_of span.from) (parameter_of span.to)

@@ -1,5 +1,5 @@
 -- The clip of a ray is its report in the solid.
-use Rattle.std.proofs.Common.{◌≡◌, ℕ, inl, refl, ap, arith, true, false, Bool, cond, List, [], ◌∷◌, Option, None, Some}
+use Rattle.std.proofs.Common.{◌≡◌, ℕ, inl, refl, ap, arith, true, false, Bool, cond, List, [], Option, None, Some}
 use Rattle.gx_num.specs.declared.ray.Ray.{Ray}
 use Rattle.gx_num.specs.Space.{HalfSpace}
 use Rattle.gx_num.specs.Ray.{HasDirection}

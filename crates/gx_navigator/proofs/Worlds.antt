@@ -1,11 +1,11 @@
 -- A world by the faces of its solid: it is bounded, and its points are those of the faces.
-use Rattle.std.proofs.Common.{◌≡◌, ℕ, ◌+◌, ◌*◌, ◌≤◌, ℤ, pos, negsuc, ◌*ℤ◌, ◌<ℤ◌, unsigned_abs, List, [], ◌∷◌, Option, cond, Some, None, sym, ap, ◌∙◌, arith}
+use Rattle.std.proofs.Common.{◌≡◌, ℕ, ◌+◌, ◌*◌, ◌≤◌, ℤ, pos, negsuc, ◌*ℤ◌, ◌<ℤ◌, unsigned_abs, List, Option, Some, None, sym, ◌∙◌, arith}
 use Rattle.std.proofs.lemmas.Int.{ints, unsigned_abs-mul}
 use Rattle.std.proofs.lemmas.Nat.{mul-le}
 use Rattle.gx_num.specs.declared.vector.V3.{V3}
 use Rattle.gx_num.specs.declared.ray.Ray.{Ray}
 use Rattle.gx_num.specs.Space.{HalfSpace, is_inside}
-use Rattle.gx_num.specs.Ray.{RayParameter, HasDirection, point_of_ray, IsPositive, IsBelow}
+use Rattle.gx_num.specs.Ray.{RayParameter, HasDirection, point_of_ray, IsPositive}
 use Rattle.gx_convex.specs.Points.{distinct}
 use Rattle.gx_shapes.specs.Shape.{IsShape, vertices_of}
 use Rattle.gx_num.specs.declared.extent.Extent.{Extent}
