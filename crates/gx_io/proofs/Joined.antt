@@ -1,9 +1,10 @@
 -- Calls one after the other: what the callers of reads and writes need.
-use Rattle.std.proofs.Common.{◌≡◌, ℕ, ◌+◌, ◌<◌, List, [], ◌∷◌, ◌++◌, length, get_or, take, drop, Option, None, Some, Result, Ok, Err, refl, sym, ap, ◌∙◌, subst, append_assoc, append-nil, take-append-drop}
+use Rattle.std.proofs.Common.{◌≡◌, ℕ, ◌+◌, ◌<◌, List, [], ◌∷◌, ◌++◌, length, get_or, take, drop, Option, None, Some, Result, Ok, Err, refl, sym, ap, ◌∙◌, subst, append_assoc, append-nil, take-append-drop, ◌-◌, ◌^◌, inl, inr, arith}
 use Rattle.std.proofs.lemmas.List.{take_more}
 use Rattle.std.proofs.lemmas.Grind.{flat_map-append}
 use Rattle.std.specs.List.{flat_map}
-use Rattle.gx_io.specs.Bytes.{with_after, with_before, AppendsBut, AppendsFront, Writes}
+use Rattle.gx_io.specs.Bytes.{with_after, with_before, AppendsBut, AppendsFront, Writes, Rose, next_fault}
+use Rattle.std.proofs.lemmas.Bool.{cases_lt}
 
 -- two appends in a row
 pub with_after-twice : (told : Option (List ℕ)) (a b : List ℕ) → with_after (with_after told a) b ≡ with_after told (a ++ b)
@@ -88,3 +89,7 @@ pub each-stopped : {X : Type 0} (f : X → List ℕ) (old mid new : Option (List
 each-stopped f old mid new xs i d h before stopped =
     let x = f (get_or xs i d) in
     front-part f old new xs i d h (front-of_second old new (flat_map f (take i xs)) x (subst (λ t. AppendsFront t new x) before stopped))
+
+-- a fault more is a rise
+pub rose-next_fault : (before : ℕ) → Rose before (next_fault before)
+rose-next_fault before = elim (cases_lt before (2 ^ 64 - 1)) [ inl h ↦ inl (omega arith) | inr h ↦ inr (omega arith) ]
