@@ -3,6 +3,7 @@ ghost use Rattle.std.specs.Io.KnownBytes.{IsAtEnd};
 ghost use Rattle.gx_io.specs.Bytes.{next_fault, with_before};
 ghost use Rattle.gx_io.specs.declared.reading.ReadError.TheVariants.{NoMemory as OutOfMemory, Failed as Faulted};
 
+use crate::buffer::PIECE;
 use crate::{Failed, Source};
 use std::alloc::{AllocError, Global};
 use thiserror::Error;
@@ -31,9 +32,6 @@ impl From<AllocError> for ReadError {
         ReadError::NoMemory
     }
 }
-
-// The most that one read is asked for.
-const PIECE: usize = 65536;
 
 /// Reads until the source answers its end, or fails, or has given so many bytes.
 #[tactic(auto, using(crate::proofs::Joined::read_on))]
