@@ -1,6 +1,6 @@
 use Rattle.std.proofs.Common.{◌≡◌, ◌-◌, ◌≤◌, length, take}
 use Rattle.gx_io.specs.Bytes.{with_after}
-use Rattle.gx_io.proofs.writing.write_all.Given as goal
+use Rattle.gx_io.proofs.writing.write_front.Given as goal
 
 -- a front was taken, and no fault was counted
 abbrev pub invariant-loop-at : goal.invariant-loop-at
