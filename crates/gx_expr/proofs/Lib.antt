@@ -1,4 +1,5 @@
 pub mod Casts
+pub mod Derivations
 pub mod Descent
 pub mod Leaves
 pub mod Names

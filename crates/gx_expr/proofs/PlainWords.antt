@@ -1,21 +1,19 @@
 -- Words that are a few digits, with or without a sign.
-use Rattle.std.proofs.Common.{◌≡◌, ℕ, suc, ◌+◌, ◌-◌, ◌*◌, ◌<◌, ◌≤◌, ◌^◌, ◌==◌, ◌&&◌, ◌||◌, pos, neg_ℤ, ℤ, Bool, true, false, List, [], ◌∷◌, ◌++◌, length, take, drop, reverse, fold, Option, None, Some, Result, Ok, Err, refl, sym, ap, ◌∙◌, subst, arith, one-add, add-one, inl, inr, append-nil, length-append, length-drop, nat_lt, length-take, min, zero-add, zero-mul, ◌+ℤ◌}
-use Rattle.std.specs.Prelude.{if◌then◌else◌, unsigned_abs}
+use Rattle.std.proofs.Common.{◌≡◌, ℕ, ◌+◌, ◌-◌, ◌*◌, ◌<◌, ◌≤◌, ◌^◌, ◌==◌, pos, neg_ℤ, ℤ, Bool, true, false, List, [], ◌∷◌, ◌++◌, length, take, drop, reverse, fold, Option, None, Some, refl, sym, ap, ◌∙◌, subst, arith, inl, inr, append-nil, length-append, length-drop, nat_lt, length-take, min, zero-add, zero-mul, ◌+ℤ◌}
 use Rattle.std.specs.List.{list_all, prefix_len}
 use Rattle.std.specs.Option.{option_map}
 use Rattle.std.proofs.Math.Nat.{pow-le-pow_right}
-use Rattle.std.proofs.lemmas.Bool.{and_parts, cases_Bool, eqb-true, eqb-false, ltb-false, cases_lt, le-ltb}
+use Rattle.std.proofs.lemmas.Bool.{and_parts, cases_Bool, eqb-true, eqb-false, ltb-false, le-ltb}
 use Rattle.std.proofs.lemmas.Int.{ints}
 use Rattle.std.proofs.lemmas.List.{reverse-append, reverse-reverse, take_all, drop_all, take-append-le}
 use Rattle.std.proofs.lemmas.Option.{none-some}
 use Rattle.std.proofs.lemmas.List.Sums.{fold_push}
-use Rattle.gx_expr.specs.declared.fault.ExprFault.{ExprFault}
-use Rattle.gx_expr.specs.Descent.{signed, IsSigned, IsRead, anywhere}
+use Rattle.gx_expr.specs.Descent.{signed, IsSigned}
 use Rattle.gx_expr.specs.Digits.{shorter, front_of, few_digits, plain_number}
 use Rattle.gx_expr.specs.Eval.{zeros_before, zeros_after, inner_digits, if_short, worth_of_decimal, evaluated}
 use Rattle.gx_expr.specs.Param.{Param}
-use Rattle.gx_expr.specs.Tree.{is_digit, value_of_digits, run_of, fraction_at, exponent_at, decimal_from, decimal_at, begins_decimal, Decimal, Read}
-use Rattle.gx_expr.specs.Worth.{Worth, ratio}
+use Rattle.gx_expr.specs.Tree.{is_digit, value_of_digits, decimal_at, begins_decimal, Decimal, Read}
+use Rattle.gx_expr.specs.Worth.{ratio}
 use Rattle.gx_expr.proofs.Descent.{signs_none, signs_more, factor_reads, term_first, expr_first, word_whole}
 use Rattle.gx_expr.specs.declared.operator.Operator.TheVariants.{Minus}
 use Rattle.gx_expr.proofs.Leaves.{number_read}
