@@ -12,7 +12,8 @@ use Rattle.gx_algebra.proofs.Ring.{num}
 use Rattle.gx_algebra.proofs.Terms as term
 use Rattle.gx_algebra.proofs.Terms.{Term3, Term4, ◌≣◌, ◌≣⁴◌, ◌⊕◌, ◌⊖◌, ◌⊗◌, none}
 use Rattle.gx_algebra.proofs.Identity.{identity, identity4, number, vector3, vector4, half_space}
-use Rattle.gx_algebra.proofs.Order.{nonneg_of_mul, pos_of_mul}
+use Rattle.gx_algebra.proofs.Identities.{dot4-times4}
+use Rattle.gx_algebra.proofs.Order.{by_sign, mul_pos, nonneg_of_mul, pos_of_mul}
 use Rattle.gx_plane.specs.Laws.{IsAbove, Spans, IsBeyond, IsFromThree}
 use Rattle.gx_plane.specs.Plane.{divisor_of, primitive, side_of, supports, flipped, normal_of, plane_through, plane_from}
 use Rattle.gx_plane.specs.Between.{is_between, candidates}
@@ -80,24 +81,10 @@ minors_are s t u p q r l m n e f g = rw (e, f, g) (out s t u p q r)
 opposite4-times4 : (k : ℤ) (v : Vec4) → opposite4 (times4 k v) ≡ times4 (pos 0 -ℤ k) v
 opposite4-times4 = identity4 (number ∷ vector4 ∷ []) (λ k v. term.opposite4 (term.times4 k v) ≣⁴ term.times4 (none ⊖ k) v) tt
 
-abbrev IsSign : ℤ → Type 0
-IsSign s = (s ≡ pos 1) ⊎ (s ≡ negsuc 0)
-
-IsSign-opposite : (s : ℤ) → IsSign s → IsSign (pos 0 -ℤ s)
-IsSign-opposite s (inl e) = inr (omega (arith, ints))
-IsSign-opposite s (inr e) = inl (omega (arith, ints))
-
-IsSign-mul : (s t : ℤ) → IsSign s → IsSign t → IsSign (s *ℤ t)
-IsSign-mul s t (inl e) (inl f) = inl (rw (e, f) refl)
-IsSign-mul s t (inl e) (inr f) = inr (rw (e, f) refl)
-IsSign-mul s t (inr e) (inl f) = inr (rw (e, f) refl)
-IsSign-mul s t (inr e) (inr f) = inl (rw (e, f) refl)
-
 -- a side is a point with a sign
 record IsSide (points : List V3) (m : Vec4) : Type 0 where
   point : V3
   sign : ℤ
-  is_sign : IsSign sign
   in_list : Contains points point
   same : m ≡ times4 sign (beyond point)
 
@@ -113,11 +100,12 @@ IsSide-member a b m h = go (Contains-append_cases (map within a) (map beyond b) 
     go : Contains (map within a) m ⊎ Contains (map beyond b) m → IsSide (a ++ b) m
     go (inl c) =
         let p = Contains-unmap within a m c in
-        record { point = p.0; sign = negsuc 0; is_sign = inr refl; in_list = Contains-append_left a b p.0 p.1; same = sym p.2 ∙ within_is p.0 }
+        record { point = p.0; sign = negsuc 0; in_list = Contains-append_left a b p.0 p.1; same = sym p.2 ∙ within_is p.0 }
     go (inr c) =
         let p = Contains-unmap beyond b m c in
-        record { point = p.0; sign = pos 1; is_sign = inl refl; in_list = Contains-append_right a b p.0 p.1; same = sym p.2 ∙ beyond_is p.0 }
+        record { point = p.0; sign = pos 1; in_list = Contains-append_right a b p.0 p.1; same = sym p.2 ∙ beyond_is p.0 }
 
+-- a positive multiple of the plane of three points
 record IsOfPoints (points : List V3) (w : Vec4) : Type 0 where
   p : V3
   q : V3
@@ -125,10 +113,12 @@ record IsOfPoints (points : List V3) (w : Vec4) : Type 0 where
   in_p : Contains points p
   in_q : Contains points q
   in_r : Contains points r
-  same : w ≡ lifted (plane_from (normal_of p q r) p)
+  scale : ℤ
+  positive : pos 0 <ℤ scale
+  same : w ≡ times4 scale (lifted (plane_from (normal_of p q r) p))
 
-IsOfPoints-from_three : (a b : List V3) (w : Vec4) → IsFromThree (sides a b) w → IsOfPoints (a ++ b) w
-IsOfPoints-from_three a b w three = go three.same
+IsOfPoints-from_three : (a b : List V3) (g w : Vec4) → pos 0 <ℤ dot4 g w → IsFromThree (sides a b) w → IsOfPoints (a ++ b) w
+IsOfPoints-from_three a b g w beyond three = go three.same
   where
     first : IsSide (a ++ b) three.first
     first = IsSide-member a b three.first three.first_in
@@ -145,55 +135,56 @@ IsOfPoints-from_three a b w three = go three.same
     sign : ℤ
     sign = pos 0 -ℤ (first.sign *ℤ (second.sign *ℤ third.sign))
 
-    is_sign : IsSign sign
-    is_sign = IsSign-opposite (first.sign *ℤ (second.sign *ℤ third.sign)) (IsSign-mul first.sign (second.sign *ℤ third.sign) first.is_sign (IsSign-mul second.sign third.sign second.is_sign third.is_sign))
-
     is : minors three.first three.second three.third ≡ times4 sign plane
     is = minors_are first.sign second.sign third.sign first.point second.point third.point three.first three.second three.third first.same second.same third.same
 
-    once : (p q r : V3) → times4 (pos 1) (lifted (plane_from (normal_of p q r) p)) ≡ lifted (plane_from (normal_of p q r) p)
-    once = identity4 (vector3 ∷ vector3 ∷ vector3 ∷ []) (λ p q r. term.times4 (num (pos 1)) (lifted_term (normal_term p q r) p) ≣⁴ lifted_term (normal_term p q r) p) tt
+    swapped : (s : ℤ) (p q r : V3) → times4 s (lifted (plane_from (normal_of p q r) p)) ≡ times4 (pos 0 -ℤ s) (lifted (plane_from (normal_of q p r) q))
+    swapped = identity4 (number ∷ vector3 ∷ vector3 ∷ vector3 ∷ []) (λ s p q r. term.times4 s (lifted_term (normal_term p q r) p) ≣⁴ term.times4 (none ⊖ s) (lifted_term (normal_term q p r) q)) tt
 
-    swapped : (p q r : V3) → times4 (negsuc 0) (lifted (plane_from (normal_of p q r) p)) ≡ lifted (plane_from (normal_of q p r) q)
-    swapped = identity4 (vector3 ∷ vector3 ∷ vector3 ∷ []) (λ p q r. term.times4 (num (negsuc 0)) (lifted_term (normal_term p q r) p) ≣⁴ lifted_term (normal_term q p r) q) tt
-
-    of : (s : ℤ) → IsSign s → w ≡ times4 s plane → IsOfPoints (a ++ b) w
-    of s (inl f) e = record {
-      p = first.point;
-      q = second.point;
-      r = third.point;
-      in_p = first.in_list;
-      in_q = second.in_list;
-      in_r = third.in_list;
-      same = e ∙ ap (λ (z : ℤ). times4 z plane) f ∙ once first.point second.point third.point;
-    }
-    of s (inr f) e = record {
-      p = second.point;
-      q = first.point;
-      r = third.point;
-      in_p = second.in_list;
-      in_q = first.in_list;
-      in_r = third.in_list;
-      same = e ∙ ap (λ (z : ℤ). times4 z plane) f ∙ swapped first.point second.point third.point;
-    }
+    of : (s : ℤ) → w ≡ times4 s plane → IsOfPoints (a ++ b) w
+    of s e =
+        by_sign s
+        (λ lt. record {
+          p = second.point;
+          q = first.point;
+          r = third.point;
+          in_p = second.in_list;
+          in_q = first.in_list;
+          in_r = third.in_list;
+          scale = pos 0 -ℤ s;
+          positive = omega (arith, ints, lt);
+          same = e ∙ swapped s first.point second.point third.point;
+        })
+        (λ z. absurd (omega (arith, ints, beyond, ap (dot4 g) e, dot4-times4 s g plane, ap (λ (k : ℤ). k *ℤ dot4 g plane) z)))
+        (λ gt. record {
+          p = first.point;
+          q = second.point;
+          r = third.point;
+          in_p = first.in_list;
+          in_q = second.in_list;
+          in_r = third.in_list;
+          scale = s;
+          positive = gt;
+          same = e;
+        })
 
     go : (w ≡ minors three.first three.second three.third) ⊎ (w ≡ opposite4 (minors three.first three.second three.third)) → IsOfPoints (a ++ b) w
-    go (inl e) = of sign is_sign (e ∙ is)
-    go (inr e) = of (pos 0 -ℤ sign) (IsSign-opposite sign is_sign) (e ∙ ap opposite4 is ∙ opposite4-times4 sign plane)
+    go (inl e) = of sign (e ∙ is)
+    go (inr e) = of (pos 0 -ℤ sign) (e ∙ ap opposite4 is ∙ opposite4-times4 sign plane)
 
 -- ---- products with a plane, and with the primitive one
-product_nothing : (g : Vec4) (n a : V3) → n ≡ record { x = pos 0; y = pos 0; z = pos 0 } → dot4 g (lifted (plane_from n a)) ≡ pos 0
-product_nothing g n a e = ap (λ (m : V3). dot4 g (lifted (plane_from m a))) e ∙ out g a
+product_nothing : (g : Vec4) (k : ℤ) (n a : V3) → n ≡ record { x = pos 0; y = pos 0; z = pos 0 } → dot4 g (times4 k (lifted (plane_from n a))) ≡ pos 0
+product_nothing g k n a e = ap (λ (m : V3). dot4 g (times4 k (lifted (plane_from m a)))) e ∙ out g k a
   where
-    out : (g : Vec4) (a : V3) → dot4 g (lifted (plane_from (record { x = pos 0; y = pos 0; z = pos 0 }) a)) ≡ pos 0
-    out = identity (vector4 ∷ vector3 ∷ []) (λ g a. term.dot4 g (lifted_term (record { x = none; y = none; z = none }) a) ≣ none) tt
+    out : (g : Vec4) (k : ℤ) (a : V3) → dot4 g (times4 k (lifted (plane_from (record { x = pos 0; y = pos 0; z = pos 0 }) a))) ≡ pos 0
+    out = identity (vector4 ∷ number ∷ vector3 ∷ []) (λ g k a. term.dot4 g (term.times4 k (lifted_term (record { x = none; y = none; z = none }) a)) ≣ none) tt
 
-product_primitive : (g : Vec4) (n a : V3) → dot4 g (lifted (plane_from n a)) ≡ pos (divisor_of n) *ℤ dot4 g (lifted (plane_from (primitive n) a))
-product_primitive g n a =
-    ap (λ (m : V3). dot4 g (lifted (plane_from m a))) (sym (times3-primitive n)) ∙ out (pos (divisor_of n)) g (primitive n) a
+product_primitive : (g : Vec4) (k : ℤ) (n a : V3) → dot4 g (times4 k (lifted (plane_from n a))) ≡ (k *ℤ pos (divisor_of n)) *ℤ dot4 g (lifted (plane_from (primitive n) a))
+product_primitive g k n a =
+    ap (λ (m : V3). dot4 g (times4 k (lifted (plane_from m a)))) (sym (times3-primitive n)) ∙ out k (pos (divisor_of n)) g (primitive n) a
   where
-    out : (k : ℤ) (g : Vec4) (n a : V3) → dot4 g (lifted (plane_from (times3 k n) a)) ≡ k *ℤ dot4 g (lifted (plane_from n a))
-    out = identity (number ∷ vector4 ∷ vector3 ∷ vector3 ∷ []) (λ k g n a. term.dot4 g (lifted_term (term.times3 k n) a) ≣ k ⊗ term.dot4 g (lifted_term n a)) tt
+    out : (k d : ℤ) (g : Vec4) (n a : V3) → dot4 g (times4 k (lifted (plane_from (times3 d n) a))) ≡ (k *ℤ d) *ℤ dot4 g (lifted (plane_from n a))
+    out = identity (number ∷ number ∷ vector4 ∷ vector3 ∷ vector3 ∷ []) (λ k d g n a. term.dot4 g (term.times4 k (lifted_term (term.times3 d n) a)) ≣ (k ⊗ d) ⊗ term.dot4 g (lifted_term n a)) tt
 
 -- ---- the theorem
 -- a candidate that is between the lists, with g strictly on its side
@@ -208,22 +199,23 @@ tilted_between a b h g spans is = from (tilted (sides a b) g spans (lifted h) is
   where
     at_points : (w : Vec4) → IsBeyond (sides a b) g w → (o : IsOfPoints (a ++ b) w) (plane : Option HalfSpace) → plane_through o.p o.q o.r ≡ plane → (k : HalfSpace) × IsBetweenBeyond a b g k
     at_points w isb o None e =
-        absurd (omega (arith, ints, isb.beyond, ap (dot4 g) o.same, product_nothing g (normal_of o.p o.q o.r) o.p (plane_through_none o.p o.q o.r e)))
+        absurd (omega (arith, ints, isb.beyond, ap (dot4 g) o.same, product_nothing g o.scale (normal_of o.p o.q o.r) o.p (plane_through_none o.p o.q o.r e)))
     at_points w isb o (Some k) e =
         let through = plane_through_some o.p o.q o.r k e in
-        let d = divisor_of (normal_of o.p o.q o.r) in
-        let product : (m : Vec4) → dot4 m w ≡ pos d *ℤ dot4 m (lifted k) = λ m. ap (dot4 m) o.same ∙ product_primitive m (normal_of o.p o.q o.r) o.p ∙ ap (λ (j : HalfSpace). pos d *ℤ dot4 m (lifted j)) (sym through.same) in (
+        let c = o.scale *ℤ pos (divisor_of (normal_of o.p o.q o.r)) in
+        let positive : pos 0 <ℤ c = mul_pos o.scale (pos (divisor_of (normal_of o.p o.q o.r))) o.positive (omega (arith, ints, through.apart)) in
+        let product : (m : Vec4) → dot4 m w ≡ c *ℤ dot4 m (lifted k) = λ m. ap (dot4 m) o.same ∙ product_primitive m o.scale (normal_of o.p o.q o.r) o.p ∙ ap (λ (j : HalfSpace). c *ℤ dot4 m (lifted j)) (sym through.same) in (
           k,
           record {
             candidate = Contains-candidates (a ++ b) o.p o.q o.r k o.in_p o.in_q o.in_r e;
-            between = (Decides-is_between a b k).1 (All-weaker (λ m. pos 0 ≤ℤ dot4 m w) (λ m. pos 0 ≤ℤ dot4 m (lifted k)) (λ m le. nonneg_of_mul (pos d) (dot4 m (lifted k)) (omega (arith, ints, through.apart)) (omega (arith, ints, le, product m))) (sides a b) isb.above);
-            beyond = pos_of_mul (pos d) (dot4 g (lifted k)) (omega (arith, ints)) (omega (arith, ints, isb.beyond, product g));
+            between = (Decides-is_between a b k).1 (All-weaker (λ m. pos 0 ≤ℤ dot4 m w) (λ m. pos 0 ≤ℤ dot4 m (lifted k)) (λ m le. nonneg_of_mul c (dot4 m (lifted k)) positive (omega (arith, ints, le, product m))) (sides a b) isb.above);
+            beyond = pos_of_mul c (dot4 g (lifted k)) (omega (arith, ints, positive)) (omega (arith, ints, isb.beyond, product g));
           },
         )
 
     from : (w : Vec4) × IsBeyond (sides a b) g w × IsFromThree (sides a b) w → (k : HalfSpace) × IsBetweenBeyond a b g k
     from (w, isb, three) =
-        let o = IsOfPoints-from_three a b w three in
+        let o = IsOfPoints-from_three a b g w isb.beyond three in
         at_points w isb o (plane_through o.p o.q o.r) refl
 
 -- So where no candidate is between, no plane with something strictly on its side is.

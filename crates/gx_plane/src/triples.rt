@@ -32,6 +32,7 @@ impl<'a> Triples<'a> {
     pub fn new(a: &'a [V3], b: &'a [V3]) -> Triples<'a>
         ensures { result ≡ triples_of (a.now ++ b.now) }
     {
+        // Never read before `next` has taken a first and a second point.
         let nowhere = V3 { x: 0, y: 0, z: 0 };
         let none = Points { a: &[], b: &[] };
         Triples {
