@@ -1,6 +1,6 @@
 -- A buffer before a sink: what is pending, and what the sink has.
-use Rattle.std.proofs.Common.{◌≡◌, ℕ, ◌≤◌, List, [], ◌++◌, length, take, drop, Option, None, Some, Result, Ok, Err, IfOk, OnOk, OnErr, refl, sym, ap, ◌∙◌, subst, arith, append_assoc, append-nil, take-append-drop, length-take}
-use Rattle.std.proofs.Math.Seq.{take-length, drop-append_seam}
+use Rattle.std.proofs.Common.{◌≡◌, ℕ, List, [], ◌++◌, length, take, drop, Option, None, Some, Result, Ok, Err, IfOk, OnOk, OnErr, refl, sym, ap, ◌∙◌, subst, arith, append_assoc, append-nil, take-append-drop, length-take}
+use Rattle.std.proofs.Math.Seq.{drop-append_seam}
 use Rattle.std.proofs.lemmas.List.{take-append-le}
 use Rattle.gx_io.specs.Bytes.{with_after, AppendsBut, AppendsFront, Grows, Writes}
 use Rattle.gx_io.proofs.Joined.{with_after-twice, with_after-nothing}
@@ -21,11 +21,7 @@ unfolding AppendsBut
 but-whole old new whole pending (front, parts, is) =
     ap (λ t. with_after t pending) is ∙ with_after-twice old front pending ∙ ap (with_after old) (sym parts)
 
--- what is told grows by nothing, and by what is appended
-pub grows-same : (told : Option (List ℕ)) → Grows told told
-grows-same None = refl
-grows-same (Some told) = ap Some (take-length told)
-
+-- what is told grows by what is appended
 pub grows-after : (old mid : Option (List ℕ)) (bytes : List ℕ) → Grows old mid → Grows old (with_after mid bytes)
 unfolding with_after
 grows-after None None bytes grows = refl
@@ -35,13 +31,14 @@ grows-after (Some xs) (Some ys) bytes grows =
     let front : take (length xs) ys ≡ xs = cc in
     ap Some (take-append-le (length xs) ys bytes (omega (arith, ap length front, length-take (length xs) ys)) ∙ front)
 
+-- and by a write
 pub grows-write : {E : Type 0} (start old new : Option (List ℕ)) (piece : List ℕ) (result : Result ℕ E)
     → Grows start old → IfOk result (λ n. new ≡ with_after old (take n piece)) → OnErr result (new ≡ old) → Grows start new
 grows-write start old new piece (Ok n) grows ok err = subst (Grows start) (sym ok) (grows-after start old (take n piece) grows)
 grows-write start old new piece (Err e) grows ok err = subst (Grows start) (sym err) grows
 
 -- Of a front that was gathered, a front was handed on.
-pub front-gathered : (old new : Option (List ℕ)) (pending whole : List ℕ) → Grows old new → AppendsFront old (with_after new pending) whole → AppendsFront old new whole
+front-gathered : (old new : Option (List ℕ)) (pending whole : List ℕ) → Grows old new → AppendsFront old (with_after new pending) whole → AppendsFront old new whole
 unfolding AppendsFront AppendsBut with_after
 front-gathered None None pending whole grows stopped = (whole, ([], refl, refl))
 front-gathered None (Some ys) pending whole grows stopped = absurd cc

@@ -1,5 +1,5 @@
 ghost use Rattle.std.specs.Prelude.{◌≡◌, OnOk, []};
-ghost use Rattle.gx_io.specs.Bytes.{HasCause, with_after};
+ghost use Rattle.gx_io.specs.Bytes.{HasCause, AppendsBut, with_after};
 
 use crate::{Buffer, Failed, Sink};
 
@@ -25,9 +25,9 @@ impl<K: Sink + Drop> BufferedSink<K> {
         self.inner
     }
 
-    /// Hands all on. At an error nothing is lost of what this sink has written.
+    /// Hands all on. At an error what was handed on is no longer pending, and nothing is lost.
     pub fn flush(&mut self) -> Result<(), Failed>
-        ensures bytes { with_after (K.written self.new.inner) self.new.buffer ≡ with_after (K.written self.old.inner) self.old.buffer }
+        ensures bytes { AppendsBut (K.written self.old.inner) (K.written self.new.inner) self.old.buffer self.new.buffer }
         ensures all { OnOk result (self.new.buffer ≡ []) }
         ensures cause { HasCause (K.faults self.old.inner) (K.faults self.new.inner) result }
     {

@@ -27,7 +27,6 @@ impl<R: Read + Drop> Source for StdSource<R> {
 
     ghost fails = { λ old new. new.faults ≡ next_fault old.faults };
 
-    #[tactic(auto, unfolding(crate::specs::Bytes::with_before))]
     fn read(&mut self, buf: &mut [u8]) -> Result<usize, Failed>
         requires { 0 < length buf.old }
         ensures bound { IfOk result (λ n. n ≤ length buf.new) }

@@ -1,7 +1,7 @@
 use Rattle.std.proofs.Common.{◌∙◌, ap, subst, arith}
 use Rattle.std.proofs.lemmas.Result.{err_from_is_err_and}
 use Rattle.gx_io.specs.Bytes.{with_after, AppendsFront}
-use Rattle.gx_io.proofs.Gathered.{with_after-none, writes-all}
+use Rattle.gx_io.proofs.Gathered.{but-whole, with_after-none, writes-all}
 use Rattle.gx_io.proofs.printing.print_and_flush.Goals as goal
 
 pub returns-in_err-print-clause-bytes : goal.returns-in_err-print-clause-bytes
@@ -17,4 +17,4 @@ returns-clause-bytes g c =
     let text = c.in_ok-print.ensures.bytes in
     let empty = with_after-none (g.K.Sink.written c.args.buffered.now.inner) c.args.buffered.now.buffer c.requires in
     let gathered = text.2.all ∙ ap (λ t. with_after t text.0) empty in
-    (text.0, text.1, writes-all _ _ text.0 _ (grind (arith, gathered)))
+    (text.0, text.1, writes-all _ _ text.0 _ (grind (arith, but-whole, gathered)))

@@ -1,5 +1,4 @@
 use Rattle.std.proofs.Common.{arith}
-use Rattle.gx_io.specs.Bytes.{AppendsBut}
 use Rattle.gx_io.proofs.Places.{but-take}
 use Rattle.gx_io.proofs.buffer.Buffer.hand_on.Goals as goal
 
