@@ -11,7 +11,7 @@ use Rattle.gx_io.specs.Bytes.{with_after, AppendsFront}
 use Rattle.gx_io.proofs.Joined.{with_after-twice, with_after-nothing, front-of_first, front-of_second}
 use Rattle.gx_path.specs.Report.{Row, IsReport}
 use Rattle.gx_reader.specs.Rays.{IsTraceable}
-use Rattle.gx_tree.specs.World.{World, place_on}
+use Rattle.gx_tree.specs.World.{World, path_along}
 use Rattle.g4exact.specs.Output.{ray_text, IsTrace}
 
 -- each of the rays has a report
@@ -36,7 +36,7 @@ pub record Traced (world : World) (rays : List Ray) (i : ℕ) (old new : Option 
   pub goes_on : (rest : List ℕ) → IsTrace world (i + 1) (drop i rays) rest → IsTrace world 1 rays (written ++ rest)
 
 -- a trace that goes on with a ray's report
-next : (world : World) (rays : List Ray) (i : ℕ) (ray : Ray) → slice_get rays i ≡ Some ray → (rows : List Row) → IsReport (place_on world ray) rows
+next : (world : World) (rays : List Ray) (i : ℕ) (ray : Ray) → slice_get rays i ≡ Some ray → (rows : List Row) → IsReport (path_along world ray) rows
     → (rest : List ℕ) → IsTrace world (i + 1 + 1) (drop (i + 1) rays) rest → IsTrace world (i + 1) (drop i rays) (ray_text world (i + 1) rows ++ rest)
 next world rays i ray e rows report rest trace = rw (drop_get rays i ray e) (rows, rest, report, trace, refl)
 
@@ -44,7 +44,7 @@ pub traced_none : (world : World) (rays : List Ray) (old : Option (List ℕ)) �
 traced_none world rays old = record { written = []; is = sym (with_after-nothing old); goes_on = λ rest trace. trace }
 
 module _ (world : World) (rays : List Ray) (i : ℕ) (old mid new : Option (List ℕ)) (so_far : Traced world rays i old mid) (ray : Ray) (at : slice_get rays i ≡ Some ray)
-    (rows : List Row) (report : IsReport (place_on world ray) rows) where
+    (rows : List Row) (report : IsReport (path_along world ray) rows) where
   pub traced_more : new ≡ with_after mid (ray_text world (i + 1) rows) → Traced world rays (i + 1) old new
   traced_more e = record {
     written = so_far.written ++ ray_text world (i + 1) rows;

@@ -3,7 +3,7 @@ use Rattle.std.specs.Prelude.{◌≡◌, ℕ, ◌+◌, List, [], ◌∷◌, ◌+
 use Rattle.std.specs.List.{flat_map}
 use Rattle.gx_num.specs.declared.ray.Ray.{Ray}
 use Rattle.gx_path.specs.Report.{Row, IsReport}
-use Rattle.gx_tree.specs.World.{World, place_on}
+use Rattle.gx_tree.specs.World.{World, path_along}
 use Rattle.gx_reader.specs.declared.fault.TextFault.{TextFault}
 use Rattle.gx_reader.specs.declared.input.Input.{Input}
 use Rattle.gx_reader.specs.Reading.{reading}
@@ -21,7 +21,7 @@ ray_text world number rows = ray_head number ++ flat_map (row_text world) rows
 abbrev pub IsTrace : World → ℕ → List Ray → List ℕ → Type 0
 IsTrace world number [] bytes = bytes ≡ []
 IsTrace world number (ray ∷ rays) bytes =
-    (rows : List Row) × (rest : List ℕ) × IsReport (place_on world ray) rows × IsTrace world (number + 1) rays rest × (bytes ≡ ray_text world number rows ++ rest)
+    (rows : List Row) × (rest : List ℕ) × IsReport (path_along world ray) rows × IsTrace world (number + 1) rays rest × (bytes ≡ ray_text world number rows ++ rest)
 
 -- the line of the text's fault; or where there is none, the trace of its rays
 abbrev pub IsTraceOf : Result Input TextFault → List ℕ → Status → Type 0

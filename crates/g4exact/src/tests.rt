@@ -147,7 +147,7 @@ fn each_text_has_its_first_fault(rt: HostRuntime) -> Result<(), Fail> {
         (":VOLU w BOX 1e19 1 1 Air", "1 4 TooWide"),
         (":VOLU w BOX 1 1 3*deg Air", "1 6 UnitKind"),
         (":P d 10\n:VOLU world BOX $d/3 10 10 Air", "2 4 OffGrid"),
-        (":VOLU world BOX 262145 1 1 Air", "1 4 TooFar"),
+        (":VOLU world BOX 16777217 1 1 Air", "1 4 TooFar"),
         // solids
         (":VOLU v BOX 1 0 1 Air", "1 5 Half"),
         (":VOLU v BOX 10 -1 10 Air", "1 5 Half"),
@@ -268,7 +268,12 @@ fn lengths_are_steps_of_the_grid(rt: HostRuntime) -> Result<(), Fail> {
             ":P a 1\n:P a 2/2\n:VOLU world BOX 10*$a 1.*cm (3+7)*mm Air\n:RAY -2*cm 0 0 1 0 0",
             "ray 1\n10 30 world\n",
         ),
-        (TRACE.as_slice(), ":VOLU world BOX 262144 1 1 Air", ""),
+        (TRACE.as_slice(), ":VOLU world BOX 262145 1 1 Air", ""),
+        (
+            TRACE.as_slice(),
+            ":VOLU world BOX 16777216 1 1 Air\n:RAY -16777216 0 0 16777216 0 0",
+            "ray 1\n0 2 world\n",
+        ),
         (
             &["trace"],
             ":VOLU world BOX 10 10 10 Air // \u{b5}\n:RAY -20 0 0 .1 0 0",

@@ -2,20 +2,19 @@ ghost use Rattle.std.specs.Prelude.{◌≡◌, List, ℕ};
 ghost use Rattle.gx_io.specs.Bytes.{HasCause, Writes};
 ghost use Rattle.gx_reader.specs.Rays.{IsTraceable};
 ghost use Rattle.gx_reader.specs.Reading.{reading};
-ghost use Rattle.gx_shapes.specs.Shape.{IsShape};
-ghost use Rattle.gx_tree.specs.World.{place_on};
+ghost use Rattle.gx_tree.specs.World.{path_along};
 ghost use Rattle.gx_path.specs.Report.{Row, IsReport};
-ghost use Rattle.gx_path.specs.Span.{rows_of};
+ghost use Rattle.gx_navigator.specs.Rows.{rows_of};
 ghost use Rattle.gx_print.specs.Texts.{fault_line};
 ghost use Rattle.g4exact.specs.Output.{ray_text, IsTrace, IsTraceOf};
 ghost use Rattle.g4exact.specs.Ends.{Ends, Blames, WritesTrace};
 
 use crate::outcome::Status;
+use gx_clip::Span;
 use gx_expr::Grid;
 use gx_io::{Buffer, Failed, Print, Sink, print_buffered};
 use gx_navigator::world_span;
 use gx_num::Ray;
-use gx_path::Span;
 use gx_print::{print_fault, print_ray, print_row};
 use gx_reader::{Input, ReadError, TextFault, read_text};
 use gx_tree::Hierarchy;
@@ -47,8 +46,7 @@ fn print_report<K: Sink>(
     sink: &mut K,
 ) -> Result<(), Failed>
     requires { IsTraceable ray.now }
-    ensures shape { IsShape tree.now.solid }
-    ensures bytes { (rows : List Row) × IsReport (place_on tree.now ray.now) rows × Writes (K.written sink.old) (K.written sink.new) (ray_text tree.now number rows) result }
+    ensures bytes { (rows : List Row) × IsReport (path_along tree.now ray.now) rows × Writes (K.written sink.old) (K.written sink.new) (ray_text tree.now number rows) result }
     ensures cause { HasCause (K.faults sink.old) (K.faults sink.new) result }
 {
     print_span(tree, number, &world_span(tree, ray), sink)
@@ -59,6 +57,8 @@ fn print_reports<K: Sink>(input: &Input, sink: &mut K) -> Result<(), Failed>
     ensures bytes { WritesTrace input.now (K.written sink.old) (K.written sink.new) result }
     ensures cause { HasCause (K.faults sink.old) (K.faults sink.new) result }
 {
+    // What the world's solid keeps is known from here on.
+    let _ = input.tree.solid();
     for i in 0..input.rays.count() {
         print_report(&input.tree, i + 1, &input.rays.ray(i), sink)?;
     }

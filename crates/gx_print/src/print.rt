@@ -1,12 +1,13 @@
 ghost use Rattle.std.specs.Prelude.{[], ◌++◌, codes, decimal};
 ghost use Rattle.gx_io.specs.Bytes.{HasCause, Writes};
-ghost use Rattle.gx_path.specs.Span.{parameter_of, row_of};
+ghost use Rattle.gx_fraction.specs.Fraction.{parameter_of};
+ghost use Rattle.gx_path.specs.Report.{row_of};
 ghost use Rattle.gx_table.specs.Faults.{text_of};
 ghost use Rattle.gx_print.specs.Texts.{usage_line, ray_head, row_text, fault_line, fraction_text};
 
+use gx_clip::Span;
 use gx_fraction::Frac;
 use gx_io::{Failed, Sink, write_all};
-use gx_path::Span;
 use gx_reader::TextFault;
 use gx_table::fault_text;
 use gx_tree::Hierarchy;
@@ -34,7 +35,7 @@ pub fn print_ray<K: Sink>(number: u32, sink: &mut K) -> Result<(), Failed>
 /// Writes the row of a span in a world alone.
 #[tactic(auto, using(gx_io::proofs::Joined::joined))]
 pub fn print_row<K: Sink>(tree: &Hierarchy, span: &Span, sink: &mut K) -> Result<(), Failed>
-    ensures bytes { Writes (K.written sink.old) (K.written sink.new) (row_text tree.now (row_of span.now [])) result }
+    ensures bytes { Writes (K.written sink.old) (K.written sink.new) (row_text tree.now (row_of span.now.from span.now.to [])) result }
     ensures cause { HasCause (K.faults sink.old) (K.faults sink.new) result }
 {
     write_span(sink, span)?;
