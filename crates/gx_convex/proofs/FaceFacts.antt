@@ -104,7 +104,7 @@ not_both points solid h proper s t =
     let behind = (Decides-supports h points).0 s in
     let before = (Decides-supports (flipped h) points).0 t in
     let zero = Spans-within points solid (lifted h)
-        (All-map (λ m. dot4 m (lifted h) ≡ pos 0) within points (λ k d lt. omega (arith, ints, behind k d lt, before k d lt, side_of-flipped h (get_or points k d), dot4-within h (get_or points k d)))) in
+    (All-map (λ m. dot4 m (lifted h) ≡ pos 0) within points (λ k d lt. omega (arith, ints, behind k d lt, before k d lt, side_of-flipped h (get_or points k d), dot4-within h (get_or points k d)))) in
     true≢false (sym (ap (λ (v : Vec4). is_zero (record { x = v.x; y = v.y; z = v.z })) zero) ∙ proper)
 
 -- so of a triple's plane, both ways, those that bound the points are the first that does

@@ -1,5 +1,5 @@
 -- Which of the two senses of a plane is between two lists, by a normal that is not made primitive: the signs of sides are the same.
-use Rattle.std.proofs.Common.{get_or, add-one, drop, length, not, ◌+◌, suc, ◌≡◌, ℕ, ◌<◌, Bool, true, false, cond, ◌&&◌, Option, None, List, [], ◌∷◌, find, ℤ, pos, ◌-ℤ◌, ◌*ℤ◌, int_le, refl, sym, ap, ap₂, ◌∙◌, arith, true≢false}
+use Rattle.std.proofs.Common.{get_or, add-one, drop, length, not, ◌+◌, suc, ◌≡◌, ℕ, ◌<◌, Bool, true, false, cond, ◌&&◌, Option, None, List, [], ◌∷◌, find, ℤ, pos, ◌-ℤ◌, ◌*ℤ◌, ◌≤ℤ◌, ◌<ℤ◌, int_le, refl, sym, ap, ap₂, ◌∙◌, arith, true≢false}
 use Rattle.std.specs.Option.{option_map}
 use Rattle.std.specs.List.{list_all}
 use Rattle.std.proofs.Math.Seq.{drop-cons}
@@ -85,29 +85,40 @@ found a b p q r h s t is f g =
     ap (is_between a b) (plane_from-opposite n p) ∙ ap (λ (k : HalfSpace). supports (flipped (plane_from n p)) a && supports k b) (flipped-flipped (plane_from n p)) ∙ (rw is at g) in
     rw is (sym (first_way a b n p ∙ ap₂ (λ (s t : Bool). cond s (plane_with n p) (cond t (plane_with (opposite_of n) p) None)) first second))
 
--- ---- the senses that are left, point by point
--- one point more
-pub sense-step : (test : V3 → Bool) (points : List V3) (i : ℕ) (d : V3) (before now whole : Bool) → i < length points → now ≡ (before && test (get_or points i d)) → (before && list_all test (drop i points)) ≡ whole → (now && list_all test (drop (i + 1) points)) ≡ whole
-sense-step test points i d before now whole lt e inv =
-    rw add-one (go before (test (get_or points i d)) (list_all test (drop (suc i) points)) now e (ap (λ ps. before && list_all test ps) (sym (drop-cons points i d lt)) ∙ inv))
-  where
-    go : (s t r u : Bool) → u ≡ (s && t) → (s && (t && r)) ≡ whole → (u && r) ≡ whole
-    go true t r u e f = ap (λ b. b && r) e ∙ f
-    go false t r u e f = ap (λ b. b && r) e ∙ f
-
+-- ---- the senses that are left
 pub refuted : (f b : Bool) → (not f && not b) ≡ true → (f ≡ false) × (b ≡ false)
 refuted true b e = absurd (true≢false (sym e))
 refuted false true e = absurd (true≢false (sym e))
 refuted false false e = (refl, refl)
 
--- a refuted sense stays refuted
-pub sense-refuted : (f r whole : Bool) → f ≡ false → (f && r) ≡ whole → f ≡ whole
-sense-refuted f r whole e inv = e ∙ sym (ap (λ b. b && r) e) ∙ inv
-
-pub side-backward : (h : HalfSpace) (p : V3) → int_le (pos 0) (side_of h p) ≡ int_le (side_of (flipped h) p) (pos 0)
+side-backward : (h : HalfSpace) (p : V3) → int_le (pos 0) (side_of h p) ≡ int_le (side_of (flipped h) p) (pos 0)
 side-backward h p =
     same_from_decides (int_le (pos 0) (side_of h p)) (int_le (side_of (flipped h) p) (pos 0)) (Decides-int_le (pos 0) (side_of h p))
     (Decides-like (int_le (side_of (flipped h) p) (pos 0)) (λ le. omega (arith, ints, le, side_of-flipped h p)) (λ le. omega (arith, ints, le, side_of-flipped h p)) (Decides-int_le (side_of (flipped h) p) (pos 0)))
+
+pub none_before : (h : HalfSpace) (points : List V3) → list_all (λ p. int_le (pos 0) (side_of h p)) points ≡ supports (flipped h) points
+none_before h points = ap (λ (test : V3 → Bool). list_all test points) (λ i p. side-backward h p i)
+
+pub flipped-before : (h : HalfSpace) (p : V3) (side : ℤ) → side ≡ side_of h p → pos 0 ≤ℤ side → side_of (flipped h) p ≤ℤ pos 0
+flipped-before h p side e le = omega (arith, ints, e, le, side_of-flipped h p)
+
+pub flipped-beyond : (h : HalfSpace) (p : V3) (side : ℤ) → side ≡ side_of h p → side <ℤ pos 0 → pos 0 <ℤ side_of (flipped h) p
+flipped-beyond h p side e lt = omega (arith, ints, e, lt, side_of-flipped h p)
+
+-- a point that isn't beyond leaves a sense to those behind it in the list; one that is beyond refutes it
+module _ (h : HalfSpace) (p : V3) (others rest points : List V3) (is : rest ≡ p ∷ others) (left : supports h rest ≡ supports h points) where
+  decided : (s : Bool) → int_le (side_of h p) (pos 0) ≡ s → (s && supports h others) ≡ supports h points
+  decided s e = ap (λ (b : Bool). b && supports h others) (sym e) ∙ ap (supports h) (sym is) ∙ left
+
+  pub left_to_others : side_of h p ≤ℤ pos 0 → supports h others ≡ supports h points
+  left_to_others le = decided true ((Decides-int_le (side_of h p) (pos 0)).1 le)
+
+  pub refuted_here : pos 0 <ℤ side_of h p → false ≡ supports h points
+  refuted_here lt = decided false (beyond (int_le (side_of h p) (pos 0)) (Decides-int_le (side_of h p) (pos 0)).0)
+    where
+      beyond : (b : Bool) → (b ≡ true → side_of h p ≤ℤ pos 0) → b ≡ false
+      beyond true f = absurd (omega (arith, ints, lt, f refl))
+      beyond false f = refl
 
 -- between a list and no point is what supports the list
 pub find-supports : (points : List V3) (hs : List HalfSpace) → find (is_between points []) hs ≡ find (λ h. supports h points) hs

@@ -1,4 +1,5 @@
-ghost use Rattle.std.specs.Prelude.{◌≡◌, ◌≤◌, ◌*◌, unsigned_abs, All};
+ghost use Rattle.std.specs.Prelude.{◌≡◌, ◌≤◌, ◌*◌, pos, int_le, unsigned_abs, All};
+ghost use Rattle.std.specs.List.{list_all};
 ghost use Rattle.gx_num.specs.Vector.{IsWithin};
 ghost use Rattle.gx_plane.specs.Plane.{reach, offset_reach, side_of, supports, flipped, normal_of, plane_from};
 
@@ -65,16 +66,41 @@ impl RawPlane {
         ensures forward { result.forward ≡ supports self points.now }
         ensures backward { result.backward ≡ supports (flipped self) points.now }
     {
-        let mut senses = Senses {
+        // The first point that isn't in the plane refutes one sense, and the rest are looked at for the other alone.
+        let mut rest = points;
+        'points: while let Some((&p, others)) = rest.split_first() {
+            let side = self.side(p);
+            if side > 0 {
+                return Senses {
+                    forward: false,
+                    backward: self.has_none_before(others),
+                };
+            }
+            if side < 0 {
+                return Senses {
+                    forward: self.has_none_beyond(others),
+                    backward: false,
+                };
+            }
+            rest = others;
+        }
+        Senses {
             forward: true,
             backward: true,
-        };
-        for &p in points {
-            senses = senses.with(self, p);
-            if senses.are_refuted() {
-                return senses;
-            }
         }
-        senses
+    }
+
+    fn has_none_beyond(self, points: &[V3]) -> bool
+        requires { All (IsWithin reach) points.now }
+        ensures { result ≡ supports self points.now }
+    {
+        points.iter().all(|&p| self.side(p) <= 0)
+    }
+
+    fn has_none_before(self, points: &[V3]) -> bool
+        requires { All (IsWithin reach) points.now }
+        ensures { result ≡ list_all (λ p. int_le (pos 0) (side_of self p)) points.now }
+    {
+        points.iter().all(|&p| self.side(p) >= 0)
     }
 }

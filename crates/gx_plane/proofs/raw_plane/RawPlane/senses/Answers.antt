@@ -1,29 +1,41 @@
-use Rattle.std.proofs.Common.{Bool, pos, int_le, drop, ◌+◌, ap, sym, ◌≡◌, ◌∙◌, ◌&&◌}
-use Rattle.gx_plane.specs.Plane.{side_of, supports, flipped}
-use Rattle.gx_plane.proofs.Determinants.{sense-step, sense-refuted, refuted, side-backward}
+use Rattle.std.proofs.Common.{◌∙◌, arith}
+use Rattle.std.proofs.lemmas.List.Elements.{All-rest}
+use Rattle.gx_num.specs.Vector.{IsWithin}
+use Rattle.gx_plane.specs.Plane.{reach, flipped}
+use Rattle.gx_plane.proofs.Determinants.{flipped-before, flipped-beyond, none_before, left_to_others, refuted_here}
 use Rattle.gx_plane.proofs.raw_plane.RawPlane.senses.Goals as goal
-use Rattle.gx_plane.proofs.raw_plane.RawPlane.senses.Goals.{After-with-senses}
+use borrow.Author.Differences.{ints}
 
--- a sense that is left, with the points to come
-forward : (c : After-with-senses) → (c.with-senses.result.forward && supports c.args.self (drop (c.loop-p.p-index + 1) c.args.points.now)) ≡ supports c.args.self c.args.points.now
-forward c =
-    sense-step (λ p. int_le (side_of c.args.self p) (pos 0)) c.args.points.now c.loop-p.p-index _ c.loop-p.senses.forward c.with-senses.result.forward _ c.loop-p-test.true
-    c.with-senses.ensures.forward c.loop-p.invariant.forward
+pub has_none_before-requires : goal.has_none_before-requires
+has_none_before-requires c = All-rest (IsWithin reach) _ _ _ c.in-Some.ensures.cases.0 c.points.invariant.within
 
-backward : (c : After-with-senses) → (c.with-senses.result.backward && supports (flipped c.args.self) (drop (c.loop-p.p-index + 1) c.args.points.now)) ≡ supports (flipped c.args.self) c.args.points.now
-backward c =
-    sense-step (λ p. int_le (side_of (flipped c.args.self) p) (pos 0)) c.args.points.now c.loop-p.p-index _ c.loop-p.senses.backward c.with-senses.result.backward _ c.loop-p-test.true
-    (c.with-senses.ensures.backward ∙ ap (λ (b : Bool). c.loop-p.senses.backward && b) (side-backward c.args.self _)) c.loop-p.invariant.backward
+pub has_none_beyond-requires : goal.has_none_beyond-requires
+has_none_beyond-requires c = All-rest (IsWithin reach) _ _ _ c.in-Some.ensures.cases.0 c.points.invariant.within
 
-pub loop-p-preserved : goal.loop-p-preserved
-loop-p-preserved c =
-    let d = (goal.at.loop-p-preserved c).After-with-senses in
-    record { forward = forward d; backward = backward d }
+pub returns-then-side-gt0-clause-forward : goal.returns-then-side-gt0-clause-forward
+returns-then-side-gt0-clause-forward c =
+    refuted_here c.args.self _ _ _ _ c.in-Some.ensures.cases.0 c.points.invariant.forward (omega (arith, ints, c.if-side-gt0.true, c.side-side.ensures.value))
 
-pub returns-then-are_refuted-clause-forward : goal.returns-then-are_refuted-clause-forward
-returns-then-are_refuted-clause-forward c =
-    sense-refuted _ _ _ (refuted c.with-senses.result.forward c.with-senses.result.backward (sym c.are_refuted.ensures ∙ c.if-are_refuted.true)).0 (forward (goal.at.returns-then-are_refuted-clause-forward c).After-with-senses)
+pub returns-then-side-gt0-clause-backward : goal.returns-then-side-gt0-clause-backward
+returns-then-side-gt0-clause-backward c =
+    c.has_none_before.ensures ∙ none_before c.args.self c.in-Some.others.now
+    ∙ left_to_others (flipped c.args.self) _ _ _ _ c.in-Some.ensures.cases.0 c.points.invariant.backward
+    (flipped-before c.args.self c.in-Some.field-0-0.now _ c.side-side.ensures.value (omega (arith, ints, c.if-side-gt0.true)))
 
-pub returns-then-are_refuted-clause-backward : goal.returns-then-are_refuted-clause-backward
-returns-then-are_refuted-clause-backward c =
-    sense-refuted _ _ _ (refuted c.with-senses.result.forward c.with-senses.result.backward (sym c.are_refuted.ensures ∙ c.if-are_refuted.true)).1 (backward (goal.at.returns-then-are_refuted-clause-backward c).After-with-senses)
+pub returns-then-side-lt0-clause-forward : goal.returns-then-side-lt0-clause-forward
+returns-then-side-lt0-clause-forward c =
+    c.has_none_beyond.ensures
+    ∙ left_to_others c.args.self _ _ _ _ c.in-Some.ensures.cases.0 c.points.invariant.forward (omega (arith, ints, c.if-side-lt0.true, c.side-side.ensures.value))
+
+pub returns-then-side-lt0-clause-backward : goal.returns-then-side-lt0-clause-backward
+returns-then-side-lt0-clause-backward c =
+    refuted_here (flipped c.args.self) _ _ _ _ c.in-Some.ensures.cases.0 c.points.invariant.backward
+    (flipped-beyond c.args.self c.in-Some.field-0-0.now _ c.side-side.ensures.value (omega (arith, ints, c.if-side-lt0.true)))
+
+pub points-preserved : goal.points-preserved
+points-preserved c = record {
+  within = All-rest (IsWithin reach) _ _ _ c.in-Some.ensures.cases.0 c.points.invariant.within;
+  forward = left_to_others c.args.self _ _ _ _ c.in-Some.ensures.cases.0 c.points.invariant.forward (omega (arith, ints, c.if-side-gt0.false, c.side-side.ensures.value));
+  backward = left_to_others (flipped c.args.self) _ _ _ _ c.in-Some.ensures.cases.0 c.points.invariant.backward
+      (flipped-before c.args.self c.in-Some.field-0-0.now _ c.side-side.ensures.value (omega (arith, ints, c.if-side-lt0.false)));
+}

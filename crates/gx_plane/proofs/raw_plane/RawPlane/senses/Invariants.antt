@@ -1,10 +1,15 @@
-use Rattle.std.proofs.Common.{◌≡◌, ◌&&◌, drop}
-use Rattle.gx_plane.specs.Plane.{supports, flipped}
+use Rattle.std.proofs.Common.{◌≡◌, length, All}
+use Rattle.gx_num.specs.Vector.{IsWithin}
+use Rattle.gx_plane.specs.Plane.{reach, supports, flipped}
 use Rattle.gx_plane.proofs.raw_plane.RawPlane.senses.Given as goal
 
--- a sense is one for all points where it is left and is one for those to come
-abbrev pub invariant-loop-p : goal.invariant-loop-p
-invariant-loop-p l = record {
-  forward : (l.senses.forward && supports l.self (drop l.p-index l.points)) ≡ supports l.fn.self l.fn.points;
-  backward : (l.senses.backward && supports (flipped l.self) (drop l.p-index l.points)) ≡ supports (flipped l.fn.self) l.fn.points;
+-- the points before are in the plane: the rest decides
+abbrev pub invariant-points : goal.invariant-points
+invariant-points l = record {
+  within : All (IsWithin reach) l.rest;
+  forward : supports l.self l.rest ≡ supports l.self l.points;
+  backward : supports (flipped l.self) l.rest ≡ supports (flipped l.self) l.points;
 }
+
+abbrev pub decreases-points : goal.decreases-points
+decreases-points l = length l.rest
