@@ -1,6 +1,7 @@
 pub mod Casts
 pub mod Derivations
 pub mod Descent
+pub mod DigitValues
 pub mod Leaves
 pub mod Names
 pub mod Numbers

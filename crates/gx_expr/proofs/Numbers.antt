@@ -1,5 +1,5 @@
 -- Ratios in lowest terms or too wide, and powers of ten above 18.
-use Rattle.std.proofs.Common.{◌≡◌, ℕ, suc, ◌+◌, ◌-◌, ◌*◌, ◌%◌, ◌^◌, ◌<◌, ◌≤◌, ℤ, pos, negsuc, neg_ℤ, ◌-ℤ◌, true, false, List, [], ◌∷◌, length, Ok, Err, Result, min, nat_le, refl, sym, ap, ◌∙◌, nat_lt, arith, inl, inr, ◌==◌}
+use Rattle.std.proofs.Common.{◌≡◌, ℕ, suc, ◌+◌, ◌-◌, ◌*◌, ◌%◌, ◌^◌, ◌<◌, ◌≤◌, ℤ, pos, negsuc, neg_ℤ, ◌-ℤ◌, false, List, [], ◌∷◌, length, Ok, Err, Result, min, nat_le, refl, sym, ap, ◌∙◌, nat_lt, arith, inl, inr, ◌==◌}
 use Rattle.std.specs.Prelude.{IsTrue, if◌then◌else◌, unsigned_abs}
 use Rattle.std.proofs.Math.Nat.{div-one, pow-le-pow_right, min-eq_left, min-eq_right}
 use Rattle.std.proofs.lemmas.Bool.{leb-true, le-leb, lt-leb, lt-ltb, le-ltb, cases_lt, and_parts}
@@ -13,7 +13,7 @@ use Rattle.gx_expr.specs.declared.digits.Digits.{Digits}
 use Rattle.gx_expr.specs.declared.exponent.TheConstants.{MOST}
 use Rattle.gx_expr.specs.declared.fault.ExprFault.{ExprFault}
 use Rattle.gx_expr.specs.declared.fault.ExprFault.TheVariants.{TooWide}
-use Rattle.gx_expr.specs.Digits.{raised_to, placed, worth_seen}
+use Rattle.gx_expr.specs.Digits.{placed, worth_seen}
 use Rattle.gx_expr.specs.Eval.{if_short}
 use Rattle.gx_expr.specs.Tree.{is_digit, value_of_digits}
 use Rattle.gx_expr.specs.Worth.{Worth, ratio, if_narrow}
@@ -45,35 +45,21 @@ lowest_whole : (n : ℤ) → lowest n 1 ≡ record { num = n; den = 1 }
 lowest_whole (pos n) = rw (common_one n) (ap (λ (x : ℕ). let f : Fraction = record { num = pos x; den = 1 } in f) (div-one n))
 lowest_whole (negsuc n) = rw (common_one (suc n)) (ap (λ (x : ℕ). let f : Fraction = record { num = neg_ℤ (pos x); den = 1 } in f) (div-one (suc n)))
 
-too_wide : (n : ℕ) → 2 ^ 62 < n → ratio (pos n) (pos 1) false false ≡ Err TooWide
-too_wide n h = ap (if_narrow false false) (lowest_whole (pos n)) ∙ rw (lt-ltb (2 ^ 62) n h) refl
-
 pub ratio-whole : (n : ℤ) → unsigned_abs n ≤ 2 ^ 62 → ratio n (pos 1) false false ≡ Ok (record { number = record { num = n; den = 1 }; length = false; angle = false })
 ratio-whole n h = ap (if_narrow false false) (lowest_whole n) ∙ rw (le-ltb (2 ^ 62) (unsigned_abs n) h) refl
 
-large : (n k : ℕ) → 0 < n → 18 < k → ratio (pos (n * 10 ^ k)) (pos 1) false false ≡ Err TooWide
-large n k h g = too_wide (n * 10 ^ k) (omega (arith, mul-le 1 (10 ^ 19) n (10 ^ k) h (pow-le-pow_right {n = 10} (omega arith) g)))
-
 -- ---- a few digits times a power of ten
 
-module _ (digits : List ℕ) (few : nat_lt 18 (length digits) ≡ false) (some : 0 < value_of_digits digits) where
-  raised_is : (k : ℕ) → ratio (pos (value_of_digits digits * 10 ^ k)) (pos 1) false false ≡ raised_to (value_of_digits digits) k
-  raised_is k = elim (cases_lt 18 k) [ inl far ↦ rw (lt-ltb 18 k far) (large (value_of_digits digits) k some far) | inr near ↦ rw (le-ltb 18 k near) refl ]
-
-  pub placed_is : (up down : ℕ) → if_short digits (pos up -ℤ pos down) ≡ placed (value_of_digits digits) up down
-  placed_is up down = elim (cases_lt up down) [
-    | inl lt ↦
-        let k : pos up -ℤ pos down ≡ negsuc (down - up - 1) = omega (arith, ints, lt) in
-        let j : suc (down - up - 1) ≡ down - up = omega (arith, lt) in
-        rw (k, few, j, lt-leb down up lt) refl
-    | inr le ↦
-        let k : pos up -ℤ pos down ≡ pos (up - down) = omega (arith, ints, le) in
-        rw (k, few, le-leb down up le) (raised_is (up - down))
-  ]
-
-pub long_is : (digits : List ℕ) → nat_lt 18 (length digits) ≡ true → (k : ℤ) → if_short digits k ≡ Err TooWide
-long_is digits h (pos k) = rw h refl
-long_is digits h (negsuc k) = rw h refl
+pub placed_is : (digits : List ℕ) → nat_lt 18 (length digits) ≡ false → (up down : ℕ) → if_short digits (pos up -ℤ pos down) ≡ placed (value_of_digits digits) up down
+placed_is digits few up down = elim (cases_lt up down) [
+  | inl lt ↦
+      let k : pos up -ℤ pos down ≡ negsuc (down - up - 1) = omega (arith, ints, lt) in
+      let j : suc (down - up - 1) ≡ down - up = omega (arith, lt) in
+      rw (k, few, j, lt-leb down up lt) refl
+  | inr le ↦
+      let k : pos up -ℤ pos down ≡ pos (up - down) = omega (arith, ints, le) in
+      rw (k, few, le-leb down up le) refl
+]
 
 -- ---- exponents beyond MOST
 

@@ -1,32 +1,21 @@
 -- How a number is told from its digits. No public contract stands on this file.
-use Rattle.std.specs.Prelude.{◌≡◌, ℕ, ◌+◌, ◌-◌, ◌*◌, ◌<◌, ◌≤◌, ◌^◌, ◌==◌, ℤ, pos, neg_ℤ, min, Bool, true, false, nat_le, nat_lt, if◌then◌else◌, List, [], ◌∷◌, length, drop, Option, None, Some, Result, Err}
+use Rattle.std.specs.Prelude.{◌≡◌, ℕ, ◌+◌, ◌-◌, ◌*◌, ◌≤◌, ◌^◌, ◌==◌, ℤ, pos, neg_ℤ, min, Bool, true, false, nat_le, nat_lt, if◌then◌else◌, List, [], ◌∷◌, length, Option, None, Some, Result, Err}
 use Rattle.gx_expr.specs.declared.digits.Digits.{Digits}
 use Rattle.gx_expr.specs.declared.exponent.Power.{Power}
 use Rattle.gx_expr.specs.declared.exponent.TheConstants.{MOST}
 use Rattle.gx_expr.specs.declared.fault.ExprFault.{ExprFault}
 use Rattle.gx_expr.specs.declared.fault.ExprFault.TheVariants.{TooWide}
-use Rattle.gx_expr.specs.Eval.{zeros_before, zeros_after}
+use Rattle.gx_expr.specs.Eval.{zeros_after, front_of}
 use Rattle.gx_expr.specs.Tree.{is_digit, value_of_digits, exponent_at, signed_exponent, Read}
 use Rattle.gx_expr.specs.Worth.{Worth, ratio}
-use Rattle.std.specs.Prelude.{take}
 use Rattle.std.specs.List.{list_all}
 use Rattle.std.specs.Option.{option_map}
-
--- the digits without the zeros before the first other one
-abbrev pub shorter : List ℕ → List ℕ
-shorter digits = drop (zeros_before digits) digits
-
--- the digits without the zeros at the end
-abbrev pub front_of : List ℕ → List ℕ
-front_of digits = take (length digits - zeros_after digits) digits
 
 -- what is kept of digits that begin with no zero
 pub record IsSeen (digits : List ℕ) (d : Digits) : Type 0 where
   pub zeros : d.zeros ≡ zeros_after digits
   pub count : d.count + d.zeros ≡ length digits
   pub none : d.count ≡ 0 → digits ≡ []
-  pub whole : value_of_digits digits ≡ value_of_digits (front_of digits) * 10 ^ d.zeros
-  pub some : 0 < d.count → 0 < value_of_digits (front_of digits)
   pub value : d.count ≤ 18 → d.value ≡ value_of_digits (front_of digits)
 
 -- n * 10^k and n / 10^k, for k up to 18

@@ -1,7 +1,7 @@
 -- What expressions are worth, or their first fault in evaluation: operands before their operator, left before right.
 -- Units: the documentation of Geant4's ASCII text geometry format; which ones, and every width, are this project's own.
-use Rattle.std.specs.Prelude.{ℕ, suc, zero, ◌-◌, ◌*◌, ◌^◌, ℤ, pos, negsuc, ◌+ℤ◌, ◌==◌, ◌||◌, nat_lt, true, false, if◌then◌else◌, codes, List, [], ◌∷◌, length, take, drop, reverse, Option, None, Some, Result, Ok, Err}
-use Rattle.std.specs.List.{prefix_len}
+use Rattle.std.specs.Prelude.{ℕ, suc, zero, ◌-◌, ◌*◌, ◌^◌, ℤ, pos, negsuc, ◌+ℤ◌, ◌==◌, ◌||◌, nat_lt, true, false, if◌then◌else◌, codes, List, [], ◌∷◌, length, take, drop, unsigned_abs, Option, None, Some, Result, Ok, Err}
+use Rattle.std.specs.List.{prefix_len, suffix_len}
 use Rattle.gx_table.specs.Table.{Row, number_in}
 use Rattle.gx_expr.specs.declared.fault.ExprFault.{ExprFault}
 use Rattle.gx_expr.specs.declared.fault.ExprFault.TheVariants.{Syntax, UnknownParam, UnknownUnit, TooWide}
@@ -15,26 +15,30 @@ abbrev pub zeros_before : List ℕ → ℕ
 zeros_before digits = prefix_len (λ b. b == 48) digits
 
 abbrev pub zeros_after : List ℕ → ℕ
-zeros_after digits = zeros_before (reverse digits)
+zeros_after digits = suffix_len (λ b. b == 48) digits
 
--- the digits without the zeros before the first other digit and after the last
-abbrev pub inner_digits : List ℕ → List ℕ
-inner_digits digits = let shorter = drop (zeros_before digits) digits in take (length shorter - zeros_after shorter) shorter
+-- the digits without the zeros in front
+abbrev pub trimmed : List ℕ → List ℕ
+trimmed digits = drop (zeros_before digits) digits
+
+-- the digits without the zeros at the end
+abbrev pub front_of : List ℕ → List ℕ
+front_of digits = take (length digits - zeros_after digits) digits
 
 -- n * 10^k
 abbrev pub shifted : ℕ → ℤ → Result Worth ExprFault
 shifted n (pos k) = ratio (pos (n * 10 ^ k)) (pos 1) false false
 shifted n (negsuc k) = ratio (pos n) (pos (10 ^ suc k)) false false
 
--- no more than 18 digits, and no power of ten below -18
+-- at most 18 digits, and a power of ten from -18 to 18
 abbrev pub if_short : List ℕ → ℤ → Result Worth ExprFault
-if_short inner (pos k) = if nat_lt 18 (length inner) then Err TooWide else shifted (value_of_digits inner) (pos k)
-if_short inner (negsuc k) = if nat_lt 18 (length inner) || nat_lt 18 (suc k) then Err TooWide else shifted (value_of_digits inner) (negsuc k)
+if_short digits k = if nat_lt 18 (length digits) || nat_lt 18 (unsigned_abs k) then Err TooWide else shifted (value_of_digits digits) k
 
--- a number that isn't 0 is its inner digits times a power of ten
+-- a number that isn't 0 is its digits without the zeros at both ends, times a power of ten
 abbrev pub worth_of_decimal : Decimal → Result Worth ExprFault
 worth_of_decimal d =
-    if length (inner_digits d.digits) == 0 then ratio (pos 0) (pos 1) false false else if_short (inner_digits d.digits) (d.scale +ℤ pos (zeros_after d.digits))
+    let inner = front_of (trimmed d.digits) in
+    if length inner == 0 then ratio (pos 0) (pos 1) false false else if_short inner (d.scale +ℤ pos (zeros_after (trimmed d.digits)))
 
 -- ---- units
 

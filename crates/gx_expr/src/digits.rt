@@ -16,13 +16,14 @@ pub struct Digits {
 impl Digits {
     ghost use Rattle.std.specs.Prelude.{ℕ, List, [], ◌∷◌, ◌++◌, ◌≡◌, ◌+◌, ◌-◌, EachIndex, slice_index, IsTrue};
     ghost use Rattle.gx_expr.specs.Tree.{is_digit};
-    ghost use Rattle.gx_expr.specs.Digits.{shorter, IsSeen, worth_seen};
+    ghost use Rattle.gx_expr.specs.Digits.{IsSeen, worth_seen};
+    ghost use Rattle.gx_expr.specs.Eval.{trimmed};
 
     // The digits before a point and those after it.
     pub fn of(whole: &[u8], fraction: &[u8]) -> Digits
         requires whole { EachIndex whole.now (λ k. IsTrue (is_digit (slice_index whole.now k))) }
         requires fraction { EachIndex fraction.now (λ k. IsTrue (is_digit (slice_index fraction.now k))) }
-        ensures { IsSeen (shorter (whole.now ++ fraction.now)) result }
+        ensures { IsSeen (trimmed (whole.now ++ fraction.now)) result }
     {
         let mut digits = Digits {
             value: 0,
@@ -39,7 +40,7 @@ impl Digits {
     fn push(&mut self, digit: u8)
         requires digit { IsTrue (is_digit digit) }
         requires room { self.old.count + self.old.zeros < 2 ^ 64 - 1 }
-        ensures { (digits : List ℕ) → IsSeen (shorter digits) self.old → IsSeen (shorter (digits ++ digit ∷ [])) self.new }
+        ensures { (digits : List ℕ) → IsSeen (trimmed digits) self.old → IsSeen (trimmed (digits ++ digit ∷ [])) self.new }
     {
         if digit == 48 {
             if self.count > 0 {

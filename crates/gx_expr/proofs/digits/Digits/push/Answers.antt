@@ -1,5 +1,4 @@
 use Rattle.std.proofs.Common.{refl}
-use Rattle.gx_expr.proofs.Numbers.{digit_range}
 use Rattle.gx_expr.proofs.Seen.{pushed-first, pushed-zero, pushed-digit}
 use Rattle.gx_expr.proofs.digits.Digits.push.Goals as goal
 
@@ -11,5 +10,4 @@ returns-then-self-gt0 c = λ s seen. rw c.if-digit-eq48.true (pushed-zero s c.ar
 
 pub returns : goal.returns
 returns c = λ s seen.
-    let range = digit_range c.args.digit c.requires.digit in
-    pushed-digit s c.args.self.now seen _ c.args.digit c.if-digit-eq48.false range.0 c.longer.ensures.value refl refl
+    pushed-digit s c.args.self.now seen _ c.args.digit c.if-digit-eq48.false c.longer.ensures.value refl refl
