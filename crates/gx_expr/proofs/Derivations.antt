@@ -5,7 +5,7 @@ use Rattle.std.proofs.lemmas.Bool.{cases_Bool, ltb-true, lt-ltb}
 use Rattle.std.proofs.lemmas.Option.{none-some}
 use Rattle.gx_expr.specs.Descent.{after}
 use Rattle.gx_expr.specs.Grammar.{IsExpr, term, plus_term, minus_term, IsTerm, factor, times_factor, over_factor, IsFactor, primary, plus_sign, minus_sign, IsPrimary, alone, parentheses, Derives}
-use Rattle.gx_expr.specs.Tree.{Tree, opposite, sum, difference, product, quotient, Part, leaf, plus, minus, times, over, opening, closing, most_open, Level, same, first, term_of, whole_of, next_term, next_factor, negated, tree_from, parts_of, tree_of_parts, tree_of}
+use Rattle.gx_expr.specs.Tree.{Tree, leaf, opposite, sum, difference, product, quotient, Part, operand, plus, minus, times, over, opening, closing, most_open, Level, same, first, term_of, whole_of, next_term, next_factor, negated, tree_from, parts_of, tree_of_parts, tree_of}
 use Rattle.gx_expr.proofs.Trees.{one_term, EndsTerm, one_sum}
 
 -- ---- what is derived is read
@@ -121,7 +121,7 @@ IsStack (around ∷ outer) before =
 mutual
   from_none : (parts : List Part) (outer : List Level) (here : Level) (bs ps whole : List Part) (t : Tree) → IsStack outer bs → IsPlace (length outer) here ps → whole ≡ bs ++ ps ++ parts → tree_from outer here None parts ≡ Some t → IsExpr 0 whole t
   from_none [] outer here bs ps whole t stack place w e = absurd (none-some t e)
-  from_none (leaf u ∷ parts) outer here bs ps whole t stack place w e = from_some parts outer here u bs ps (leaf u ∷ []) whole t stack place alone (w ∙ simp append_assoc) e
+  from_none (operand u ∷ parts) outer here bs ps whole t stack place w e = from_some parts outer here (leaf u) bs ps (operand u ∷ []) whole t stack place alone (w ∙ simp append_assoc) e
   from_none (plus ∷ parts) outer here bs ps whole t stack place w e = from_none parts outer here bs (ps ++ plus ∷ []) whole t stack (place-plus_sign place) (w ∙ simp append_assoc) e
   from_none (minus ∷ parts) outer here bs ps whole t stack place w e = from_none parts outer (negated here) bs (ps ++ minus ∷ []) whole t stack (place-minus_sign place) (w ∙ simp append_assoc) e
   from_none (times ∷ parts) outer here bs ps whole t stack place w e = absurd (none-some t e)
@@ -139,7 +139,7 @@ mutual
       let read : bs ++ ps ++ qs ++ [] ≡ ps ++ qs = rw stack (append-nil (ps ++ qs)) in
       rw (w, read, ← last) (place-whole place d)
   from_some [] (around ∷ outer) here u bs ps qs whole t stack place d w e = absurd (none-some t e)
-  from_some (leaf v ∷ parts) outer here u bs ps qs whole t stack place d w e = absurd (none-some t e)
+  from_some (operand v ∷ parts) outer here u bs ps qs whole t stack place d w e = absurd (none-some t e)
   from_some (plus ∷ parts) outer here u bs ps qs whole t stack place d w e =
       from_none parts outer (next_term sum here u) bs (ps ++ qs ++ plus ∷ []) whole t stack (place-next_term place d sum plus (λ rs ss u v f g. plus_term f g)) (w ∙ simp append_assoc) e
   from_some (minus ∷ parts) outer here u bs ps qs whole t stack place d w e =

@@ -7,7 +7,8 @@ use Rattle.std.proofs.lemmas.Bool.{and_parts, cases_Bool, eqb-true}
 use Rattle.std.proofs.lemmas.List.{reverse-append, reverse-reverse, take_all, take-append-le}
 use Rattle.std.proofs.lemmas.List.Sums.{fold_push}
 use Rattle.gx_expr.specs.Eval.{zeros_before, zeros_after, trimmed, front_of}
-use Rattle.gx_expr.specs.Tree.{is_digit, value_of_digits}
+use Rattle.gx_expr.specs.Tree.{value_of_digits}
+use Rattle.std.specs.Char.{is_ascii_digit}
 use Rattle.gx_expr.proofs.Numbers.{digit_range}
 
 pub ten_more : (k : ℕ) → 10 ^ (k + 1) ≡ 10 ^ k * 10
@@ -18,20 +19,20 @@ ten_more k = rw add-one (pow-suc 10 k)
 abbrev step : ℕ → ℕ → ℕ
 step value b = 10 * value + (b - 48)
 
-value-below : (s : List ℕ) (value k : ℕ) → value < 10 ^ k → list_all is_digit s ≡ true → fold step value s < 10 ^ (length s + k)
+value-below : (s : List ℕ) (value k : ℕ) → value < 10 ^ k → list_all is_ascii_digit s ≡ true → fold step value s < 10 ^ (length s + k)
 value-below [] value k h e = simp (zero-add) h
 value-below (b ∷ s) value k h e =
-    let both = and_parts (is_digit b) (list_all is_digit s) e in
+    let both = and_parts (is_ascii_digit b) (list_all is_ascii_digit s) e in
     let range = digit_range b both.0 in
     let more : step value b < 10 ^ (k + 1) = rw (ten_more k) (omega (arith, range.1)) in
     let size : length s + (k + 1) ≡ length (b ∷ s) + k = omega arith in
     rw (← size) (value-below s (step value b) (k + 1) more both.1)
 
-pub digits-below : (s : List ℕ) → list_all is_digit s ≡ true → value_of_digits s < 10 ^ length s
+pub digits-below : (s : List ℕ) → list_all is_ascii_digit s ≡ true → value_of_digits s < 10 ^ length s
 digits-below s e = subst (λ (k : ℕ). value_of_digits s < 10 ^ k) (omega arith) (value-below s 0 0 (omega arith) e)
 
 -- what a loop has read of a few digits
-pub few_more : (s : List ℕ) (i : ℕ) → i < length s → length s ≤ 9 → list_all is_digit (take i s) ≡ true → value_of_digits (take i s) < 10 ^ 8
+pub few_more : (s : List ℕ) (i : ℕ) → i < length s → length s ≤ 9 → list_all is_ascii_digit (take i s) ≡ true → value_of_digits (take i s) < 10 ^ 8
 few_more s i h few e = omega (arith, digits-below (take i s) e, length-take i s, pow-le-pow_right {n = 10} (omega arith) {i = length (take i s)} {j = 8} (omega (arith, length-take i s)))
 
 -- ---- the zeros at both ends

@@ -15,13 +15,14 @@ use Rattle.gx_expr.specs.declared.fault.ExprFault.{ExprFault}
 use Rattle.gx_expr.specs.declared.fault.ExprFault.TheVariants.{TooWide}
 use Rattle.gx_expr.specs.Digits.{placed, worth_seen}
 use Rattle.gx_expr.specs.Eval.{if_short}
-use Rattle.gx_expr.specs.Tree.{is_digit, value_of_digits}
+use Rattle.gx_expr.specs.Tree.{value_of_digits}
+use Rattle.std.specs.Char.{is_ascii_digit}
 use Rattle.gx_expr.specs.Worth.{Worth, ratio, if_narrow}
 
 pub shift_small : (n k : ℕ) → n < 10 ^ 18 → k ≤ 18 → n * 10 ^ k < 2 ^ 125
 shift_small n k h g = omega (arith, mul-le n (10 ^ k) (10 ^ 18) (10 ^ 18) (omega arith) (pow-le-pow_right {n = 10} (omega arith) g))
 
-pub digit_range : (b : ℕ) → IsTrue (is_digit b) → (48 ≤ b) × (b ≤ 57)
+pub digit_range : (b : ℕ) → IsTrue (is_ascii_digit b) → (48 ≤ b) × (b ≤ 57)
 digit_range b h = let both = and_parts (nat_le 48 b) (nat_le b 57) h in (leb-true 48 b both.0, leb-true b 57 both.1)
 
 -- one more digit after k - 1 zeros

@@ -7,7 +7,8 @@ use Rattle.std.proofs.lemmas.List.{get_or-take}
 use Rattle.std.proofs.lemmas.List.Folds.{length-prefix_len}
 use Rattle.std.proofs.lemmas.List.Sums.{prefix_len_passes}
 use Rattle.std.specs.Prelude.{if◌then◌else◌}
-use Rattle.gx_expr.specs.Tree.{Tree, Part, leaf, plus, minus, times, over, opening, closing, Read, named, part_at, in_front, onto, parts_from, parts_of, is_name_byte, is_letter, run_of, name, unit, begins_decimal}
+use Rattle.gx_expr.specs.Tree.{Leaf, Part, operand, plus, minus, times, over, opening, closing, Read, named, part_at, in_front, onto, parts_from, parts_of, is_name_byte, run_of, name, unit, begins_decimal}
+use Rattle.std.specs.Char.{is_ascii_alphabetic}
 
 pub run_all : (test : ℕ → Bool) (s : List ℕ) (k : ℕ) → k < length (take (prefix_len test s) s) → test (get_or (take (prefix_len test s) s) k 0) ≡ true
 run_all test s k h =
@@ -37,7 +38,7 @@ parts_of-none b s e = ap (λ o. onto o (λ rest. parts_from (length s - length r
 
 -- the byte that an operator or a parenthesis is
 abbrev pub IsOf : ℕ → Part → Type 0
-IsOf b (leaf t) = Unit {0}
+IsOf b (operand l) = Unit {0}
 IsOf b plus = b ≡ 43
 IsOf b minus = b ≡ 45
 IsOf b times = b ≡ 42
@@ -53,8 +54,8 @@ chosen : (c : Bool) (b : ℕ) (x y : Option (Read Part)) → (c ≡ true → IsA
 chosen true b x y h k = h refl
 chosen false b x y h k = k
 
-named-IsAt : (b : ℕ) (tree : List ℕ → Tree) (run : Read (List ℕ)) → IsAt b (named tree run)
-named-IsAt b tree run = chosen (length run.what == 0) b None (Some (record { what = leaf (tree run.what); rest = run.rest })) (λ e. tt) tt
+named-IsAt : (b : ℕ) (tree : List ℕ → Leaf) (run : Read (List ℕ)) → IsAt b (named tree run)
+named-IsAt b tree run = chosen (length run.what == 0) b None (Some (record { what = operand (tree run.what); rest = run.rest })) (λ e. tt) tt
 
 pub part_at-IsAt : (b : ℕ) (s : List ℕ) → IsAt b (part_at (b ∷ s))
 part_at-IsAt b s =
@@ -65,4 +66,4 @@ part_at-IsAt b s =
     (chosen (b == 40) b _ _ (eqb-true b 40)
     (chosen (b == 41) b _ _ (eqb-true b 41)
     (chosen (b == 36) b _ _ (λ e. named-IsAt b name (run_of is_name_byte s))
-    (chosen (begins_decimal (b ∷ s)) b _ _ (λ e. tt) (named-IsAt b unit (run_of is_letter (b ∷ s))))))))))
+    (chosen (begins_decimal (b ∷ s)) b _ _ (λ e. tt) (named-IsAt b unit (run_of is_ascii_alphabetic (b ∷ s))))))))))

@@ -12,7 +12,8 @@ use Rattle.gx_expr.specs.Descent.{signed, IsSigned}
 use Rattle.gx_expr.specs.Digits.{few_digits, plain_number}
 use Rattle.gx_expr.specs.Eval.{zeros_before, zeros_after, trimmed, front_of, if_short, worth_of_decimal, evaluated}
 use Rattle.gx_expr.specs.Param.{Param}
-use Rattle.gx_expr.specs.Tree.{is_digit, value_of_digits, decimal_at, begins_decimal, Decimal, Read}
+use Rattle.gx_expr.specs.Tree.{value_of_digits, decimal_at, begins_decimal, Decimal, Read}
+use Rattle.std.specs.Char.{is_ascii_digit}
 use Rattle.gx_expr.specs.Worth.{ratio}
 use Rattle.gx_expr.proofs.Numbers.{ratio-whole}
 use Rattle.gx_expr.proofs.Descent.{signs_none, signs_more, factor_reads, term_first, expr_first, word_whole}
@@ -44,17 +45,17 @@ decimal_whole s h =
           rw some (ap (if_short inner) scale ∙ value)
     ]
 
-all-run : (s : List ℕ) → list_all is_digit s ≡ true → prefix_len is_digit s ≡ length s
+all-run : (s : List ℕ) → list_all is_ascii_digit s ≡ true → prefix_len is_ascii_digit s ≡ length s
 all-run [] e = refl
-all-run (b ∷ s) e = let both = and_parts (is_digit b) (list_all is_digit s) e in rw (both.0, all-run s both.1) (omega arith)
+all-run (b ∷ s) e = let both = and_parts (is_ascii_digit b) (list_all is_ascii_digit s) e in rw (both.0, all-run s both.1) (omega arith)
 
-digits-decimal : (s : List ℕ) → list_all is_digit s ≡ true → decimal_at s ≡ record { what = record { digits = s; scale = pos 0 }; rest = [] }
+digits-decimal : (s : List ℕ) → list_all is_ascii_digit s ≡ true → decimal_at s ≡ record { what = record { digits = s; scale = pos 0 }; rest = [] }
 digits-decimal s e =
-    let taken : take (prefix_len is_digit s) s ≡ s = take_all (prefix_len is_digit s) s (omega (arith, all-run s e)) in
-    let left : drop (prefix_len is_digit s) s ≡ [] = drop_all (prefix_len is_digit s) s (omega (arith, all-run s e)) in
+    let taken : take (prefix_len is_ascii_digit s) s ≡ s = take_all (prefix_len is_ascii_digit s) s (omega (arith, all-run s e)) in
+    let left : drop (prefix_len is_ascii_digit s) s ≡ [] = drop_all (prefix_len is_ascii_digit s) s (omega (arith, all-run s e)) in
     rw (taken, left, append-nil s) refl
 
-begins : (b : ℕ) (s : List ℕ) → is_digit b ≡ true → begins_decimal (b ∷ s) ≡ true
+begins : (b : ℕ) (s : List ℕ) → is_ascii_digit b ≡ true → begins_decimal (b ∷ s) ≡ true
 begins b [] e = e
 begins b (c ∷ s) e = rw e refl
 
@@ -63,7 +64,7 @@ begins b (c ∷ s) e = rw e refl
 record IsFew (s : List ℕ) (n : ℕ) : Type 0 where
   some : 0 < length s
   few : length s ≤ 9
-  digits : list_all is_digit s ≡ true
+  digits : list_all is_ascii_digit s ≡ true
   value : value_of_digits s ≡ n
 
 few_parts : (s : List ℕ) (n : ℕ) → few_digits s ≡ Some n → IsFew s n
@@ -71,7 +72,7 @@ few_parts s n e = elim (cases_Bool (length s == 0)) [
   | inl none ↦ absurd (none-some n (rw none at e))
   | inr some ↦ elim (cases_Bool (nat_lt 9 (length s))) [
     | inl many ↦ absurd (none-some n (rw (some, many) at e))
-    | inr few ↦ elim (cases_Bool (list_all is_digit s)) [
+    | inr few ↦ elim (cases_Bool (list_all is_ascii_digit s)) [
       | inl digits ↦
           let above = eqb-false (length s) 0 some in
           let value : Some (value_of_digits s) ≡ Some n = rw (some, few, digits) at e in
@@ -88,7 +89,7 @@ module _ (params : List Param) (word : List ℕ) (negative : Bool) (n : ℕ) whe
       let decimal = digits-decimal (b ∷ s) few.digits in
       let value : ratio (pos n) (pos 1) false false ≡ worth_of_decimal (decimal_at (b ∷ s)).what =
       sym (ap (λ (read : Read Decimal). worth_of_decimal read.what) decimal ∙ decimal_whole (b ∷ s) (omega (arith, few.few)) ∙ ap (λ (k : ℕ). ratio (pos k) (pos 1) false false) few.value) in
-      let read = number_read 0 params (b ∷ s) [] (ratio (pos n) (pos 1) false false) (begins b s (and_parts (is_digit b) (list_all is_digit s) few.digits).0) value (sym (ap (λ (read : Read Decimal). read.rest) decimal)) in
+      let read = number_read 0 params (b ∷ s) [] (ratio (pos n) (pos 1) false false) (begins b s (and_parts (is_ascii_digit b) (list_all is_ascii_digit s) few.digits).0) value (sym (ap (λ (read : Read Decimal). read.rest) decimal)) in
       word_whole params word _ (expr_first 0 params word [] _ (term_first 0 params word [] _ (factor_reads 0 params word (b ∷ s) [] negative _ signs read)))
 
 few_small : (s : List ℕ) (n : ℕ) → IsFew s n → n ≤ 2 ^ 62

@@ -2,7 +2,7 @@
 use Rattle.std.proofs.Common.{◌≡◌, ℕ, ◌==◌, ◌-◌, true, false, List, [], ◌∷◌, length, Option, None, Some, nat_lt, refl, sym, ap, ◌∙◌}
 use Rattle.std.proofs.lemmas.Bool.{eqb-false}
 use Rattle.gx_expr.specs.Descent.{begins, IsSumEnd, IsProductEnd, tree_after, tree_on, signed_by, after}
-use Rattle.gx_expr.specs.Tree.{Tree, product, quotient, sum, difference, Part, leaf, plus, minus, times, over, opening, closing, Level, first, term_of, whole_of, next_term, next_factor, negated, in_front, part_at, onto, parts_from, parts_of, tree_from, Read}
+use Rattle.gx_expr.specs.Tree.{Leaf, Tree, leaf, product, quotient, sum, difference, Part, operand, plus, minus, times, over, opening, closing, Level, first, term_of, whole_of, next_term, next_factor, negated, in_front, part_at, onto, parts_from, parts_of, tree_from, Read}
 use Rattle.gx_expr.proofs.Parts.{parts_of-step, parts_of-none, IsAt, IsOf, part_at-IsAt}
 
 -- ---- one more part
@@ -21,8 +21,8 @@ module _ (outer : List Level) (here : Level) where
   unfolding tree_on
   on-part outer' here' t u part text rest e h = ap (tree_after outer here t) e ∙ leads outer outer' here here' t u part h (parts_of rest)
 
-  pub on-leaf : (t : Tree) (text rest : List ℕ) → parts_of text ≡ in_front (leaf t) (parts_of rest) → tree_on outer here None text ≡ tree_on outer here (Some t) rest
-  on-leaf t text rest e = on-part outer here None (Some t) (leaf t) text rest e (λ ps. refl)
+  pub on-leaf : (l : Leaf) (text rest : List ℕ) → parts_of text ≡ in_front (operand l) (parts_of rest) → tree_on outer here None text ≡ tree_on outer here (Some (leaf l)) rest
+  on-leaf l text rest e = on-part outer here None (Some (leaf l)) (operand l) text rest e (λ ps. refl)
 
   pub on-plus_sign : (s : List ℕ) → tree_on outer here None (43 ∷ s) ≡ tree_on outer here None s
   on-plus_sign s = on-part outer here None None plus (43 ∷ s) s (parts_of-step 43 s 0 plus refl) (λ ps. refl)
@@ -76,7 +76,7 @@ module _ (here : Level) (t : Tree) (f : List ℕ → Option (List Part)) (b : �
   never-ended : (outer : List Level) → ((ps : List Part) → b ≡ 41 → tree_from outer here (Some t) (closing ∷ ps) ≡ None) → (o : Option (Read Part)) → IsAt b o → tree_after outer here (Some t) (onto o f) ≡ None
   never-ended outer h None k = refl
   never-ended outer h (Some read) k = elim read.what as (λ p. IsOf b p → tree_after outer here (Some t) (in_front p (f read.rest)) ≡ None) [
-    | leaf u ↦ λ k. never outer here (Some t) (leaf u) (λ ps. refl) (f read.rest)
+    | operand u ↦ λ k. never outer here (Some t) (operand u) (λ ps. refl) (f read.rest)
     | plus ↦ λ k. absurd (eqb-false b 43 plus_not k)
     | minus ↦ λ k. absurd (eqb-false b 45 minus_not k)
     | times ↦ λ k. absurd (eqb-false b 42 times_not k)
@@ -103,7 +103,7 @@ none-outside here t b s sums products =
 pub one_term : (outer : List Level) (here : Level) (t : Tree) (ps : List Part) → tree_from outer here (Some t) ps ≡ tree_from outer (after here.sum) (Some (term_of here t)) ps
 one_term [] here t [] = refl
 one_term (around ∷ outer) here t [] = refl
-one_term outer here t (leaf u ∷ ps) = refl
+one_term outer here t (operand u ∷ ps) = refl
 one_term outer here t (plus ∷ ps) = refl
 one_term outer here t (minus ∷ ps) = refl
 one_term outer here t (times ∷ ps) = refl
@@ -127,7 +127,7 @@ on-signed sign outer here t s = on-term outer (signed_by sign here) t s ∙ sym 
 -- no `*` or `/` is next
 abbrev pub EndsTerm : List Part → Type 0
 EndsTerm [] = Unit {0}
-EndsTerm (leaf t ∷ ps) = Unit {0}
+EndsTerm (operand t ∷ ps) = Unit {0}
 EndsTerm (plus ∷ ps) = Unit {0}
 EndsTerm (minus ∷ ps) = Unit {0}
 EndsTerm (times ∷ ps) = ⊥
@@ -139,7 +139,7 @@ EndsTerm (closing ∷ ps) = Unit {0}
 pub one_sum : (outer : List Level) (before : Tree → Tree) (t : Tree) (ps : List Part) → EndsTerm ps → tree_from outer (after before) (Some t) ps ≡ tree_from outer first (Some (before t)) ps
 one_sum [] before t [] h = refl
 one_sum (around ∷ outer) before t [] h = refl
-one_sum outer before t (leaf u ∷ ps) h = refl
+one_sum outer before t (operand u ∷ ps) h = refl
 one_sum outer before t (plus ∷ ps) h = refl
 one_sum outer before t (minus ∷ ps) h = refl
 one_sum outer before t (times ∷ ps) h = absurd h
@@ -150,7 +150,7 @@ one_sum (around ∷ outer) before t (closing ∷ ps) h = refl
 
 module _ (b : ℕ) (times_not : b == 42 ≡ false) (over_not : b == 47 ≡ false) where
   ends_term : (p : Part) (ps : List Part) → IsOf b p → EndsTerm (p ∷ ps)
-  ends_term (leaf t) ps k = tt
+  ends_term (operand l) ps k = tt
   ends_term plus ps k = tt
   ends_term minus ps k = tt
   ends_term times ps k = eqb-false b 42 times_not k

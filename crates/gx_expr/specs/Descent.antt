@@ -7,14 +7,15 @@ use Rattle.gx_expr.specs.declared.text.Class.{Class}
 use Rattle.gx_expr.specs.declared.text.Class.TheVariants.{Digit, Letter, NameByte}
 use Rattle.gx_expr.specs.Param.{Param}
 use Rattle.gx_expr.specs.Eval.{of_one, worth_of}
-use Rattle.gx_expr.specs.Tree.{is_digit, is_letter, is_name_byte, Part, Level, Tree, same, first, tree_from, parts_of}
+use Rattle.gx_expr.specs.Tree.{is_name_byte, Part, Level, Tree, same, first, tree_from, parts_of}
+use Rattle.std.specs.Char.{is_ascii_digit, is_ascii_alphabetic}
 use Rattle.gx_expr.specs.Worth.{Worth, sum_of, difference_of, product_of, quotient_of, opposite_of}
 
 -- ---- bytes
 
 abbrev pub test_of : Class → ℕ → Bool
-test_of Digit = is_digit
-test_of Letter = is_letter
+test_of Digit = is_ascii_digit
+test_of Letter = is_ascii_alphabetic
 test_of NameByte = is_name_byte
 
 abbrev pub begins : ℕ → List ℕ → Bool

@@ -6,7 +6,8 @@ use Rattle.gx_expr.specs.declared.exponent.TheConstants.{MOST}
 use Rattle.gx_expr.specs.declared.fault.ExprFault.{ExprFault}
 use Rattle.gx_expr.specs.declared.fault.ExprFault.TheVariants.{TooWide}
 use Rattle.gx_expr.specs.Eval.{zeros_after, front_of}
-use Rattle.gx_expr.specs.Tree.{is_digit, value_of_digits, exponent_at, signed_exponent, Read}
+use Rattle.gx_expr.specs.Tree.{value_of_digits, exponent_at, signed_exponent, Read}
+use Rattle.std.specs.Char.{is_ascii_digit}
 use Rattle.gx_expr.specs.Worth.{Worth, ratio}
 use Rattle.std.specs.List.{list_all}
 use Rattle.std.specs.Option.{option_map}
@@ -53,7 +54,7 @@ pub record IsPower (read : Read ℤ) (power : Power) (new : List ℕ) : Type 0 w
 
 -- the value of 1 to 9 digits
 abbrev pub few_digits : List ℕ → Option ℕ
-few_digits s = if length s == 0 then None else if nat_lt 9 (length s) then None else if list_all is_digit s then Some (value_of_digits s) else None
+few_digits s = if length s == 0 then None else if nat_lt 9 (length s) then None else if list_all is_ascii_digit s then Some (value_of_digits s) else None
 
 -- the number that a word of 1 to 9 digits is, with or without `-` (45) before them
 abbrev pub plain_number : List ℕ → Option ℤ

@@ -6,7 +6,7 @@ use Rattle.gx_table.specs.Table.{Row, number_in}
 use Rattle.gx_expr.specs.declared.fault.ExprFault.{ExprFault}
 use Rattle.gx_expr.specs.declared.fault.ExprFault.TheVariants.{Syntax, UnknownParam, UnknownUnit, TooWide}
 use Rattle.gx_expr.specs.Param.{Param, value_of}
-use Rattle.gx_expr.specs.Tree.{Decimal, value_of_digits, Tree, number, name, unit, opposite, sum, difference, product, quotient, tree_of}
+use Rattle.gx_expr.specs.Tree.{Decimal, value_of_digits, Leaf, number, name, unit, Tree, leaf, opposite, sum, difference, product, quotient, tree_of}
 use Rattle.gx_expr.specs.Worth.{Worth, ratio, sum_of, difference_of, product_of, quotient_of, opposite_of}
 
 -- ---- numbers
@@ -80,10 +80,13 @@ of_two operation (Err fault) b = Err fault
 of_two operation (Ok a) (Err fault) = Err fault
 of_two operation (Ok a) (Ok b) = operation a b
 
+abbrev pub worth_of_leaf : List Param → Leaf → Result Worth ExprFault
+worth_of_leaf params (number d) = worth_of_decimal d
+worth_of_leaf params (name n) = found UnknownParam (λ w. w) (value_of params n)
+worth_of_leaf params (unit u) = found UnknownUnit unit_of (number_in units u)
+
 abbrev pub worth_of : List Param → Tree → Result Worth ExprFault
-worth_of params (number d) = worth_of_decimal d
-worth_of params (name n) = found UnknownParam (λ w. w) (value_of params n)
-worth_of params (unit u) = found UnknownUnit unit_of (number_in units u)
+worth_of params (leaf l) = worth_of_leaf params l
 worth_of params (opposite a) = of_one opposite_of (worth_of params a)
 worth_of params (sum a b) = of_two sum_of (worth_of params a) (worth_of params b)
 worth_of params (difference a b) = of_two difference_of (worth_of params a) (worth_of params b)

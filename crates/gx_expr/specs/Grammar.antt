@@ -1,7 +1,7 @@
 -- The grammar of expressions as a relation: the parts of an expression, a term, a factor and a primary with their trees,
 -- where so many parentheses are open around them. The grammar is this project's own.
 use Rattle.std.specs.Prelude.{◌≡◌, ◌<◌, ℕ, suc, List, [], ◌∷◌, ◌++◌, Some}
-use Rattle.gx_expr.specs.Tree.{Tree, opposite, sum, difference, product, quotient, Part, leaf, plus, minus, times, over, opening, closing, most_open, parts_of}
+use Rattle.gx_expr.specs.Tree.{Leaf, Tree, leaf, opposite, sum, difference, product, quotient, Part, operand, plus, minus, times, over, opening, closing, most_open, parts_of}
 
 mutual
   -- expr = term { ("+" | "-") term }
@@ -24,7 +24,7 @@ mutual
 
   -- primary = number | "$" name | unit | "(" expr ")"
   pub data IsPrimary : ℕ → List Part → Tree → Type 0 where
-    alone : {n : ℕ} {t : Tree} → IsPrimary n (leaf t ∷ []) t
+    alone : {n : ℕ} {l : Leaf} → IsPrimary n (operand l ∷ []) (leaf l)
     parentheses : {n : ℕ} {ps : List Part} {t : Tree} → n < most_open → IsExpr (suc n) ps t → IsPrimary n (opening ∷ ps ++ closing ∷ []) t
 
 -- the word's parts are an expression with this tree

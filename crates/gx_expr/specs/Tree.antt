@@ -1,18 +1,13 @@
 -- Expressions: the parts of a word, and the tree of the parts. A number is
 --     number = (digits [ "." [ digits ] ] | "." digits) [ ("e" | "E") [ "+" | "-" ] digits ]
 -- and the longest spelling is taken for a number, for a name (letters, digits and `_`) and for a unit (letters).
-use Rattle.std.specs.Prelude.{ℕ, suc, zero, ◌+◌, ◌-◌, ◌*◌, ℤ, pos, neg_ℤ, ◌-ℤ◌, Bool, ◌==◌, ◌&&◌, ◌||◌, false, nat_le, nat_lt, if◌then◌else◌, List, [], ◌∷◌, ◌++◌, length, take, drop, fold, Option, None, Some}
+use Rattle.std.specs.Prelude.{ℕ, suc, zero, ◌+◌, ◌-◌, ◌*◌, ℤ, pos, neg_ℤ, ◌-ℤ◌, Bool, ◌==◌, ◌&&◌, ◌||◌, false, nat_lt, if◌then◌else◌, List, [], ◌∷◌, ◌++◌, length, take, drop, fold, Option, None, Some}
+use Rattle.std.specs.Char.{is_ascii_digit, is_ascii_alphabetic}
 use Rattle.std.specs.List.{prefix_len}
-
-abbrev pub is_digit : ℕ → Bool
-is_digit b = nat_le 48 b && nat_le b 57
-
-abbrev pub is_letter : ℕ → Bool
-is_letter b = (nat_le 65 b && nat_le b 90) || (nat_le 97 b && nat_le b 122)
 
 -- a letter, a digit or `_`
 abbrev pub is_name_byte : ℕ → Bool
-is_name_byte b = is_letter b || is_digit b || b == 95
+is_name_byte b = is_ascii_alphabetic b || is_ascii_digit b || b == 95
 
 -- the value of decimal digits
 abbrev pub value_of_digits : List ℕ → ℕ
@@ -23,10 +18,14 @@ pub record Decimal : Type 0 where
   pub digits : List ℕ
   pub scale : ℤ
 
+-- what an expression begins from: a number, a name or a unit
+pub data Leaf : Type 0 where
+  number : Decimal → Leaf
+  name : List ℕ → Leaf
+  unit : List ℕ → Leaf
+
 pub data Tree : Type 0 where
-  number : Decimal → Tree
-  name : List ℕ → Tree
-  unit : List ℕ → Tree
+  leaf : Leaf → Tree
   opposite : Tree → Tree
   sum : Tree → Tree → Tree
   difference : Tree → Tree → Tree
@@ -47,7 +46,7 @@ run_of test s = record { what = take (prefix_len test s) s; rest = drop (prefix_
 -- a point (46) and the digits after it, which may be none
 abbrev pub fraction_at : List ℕ → Read (List ℕ)
 fraction_at [] = record { what = []; rest = [] }
-fraction_at (b ∷ s) = if b == 46 then run_of is_digit s else record { what = []; rest = b ∷ s }
+fraction_at (b ∷ s) = if b == 46 then run_of is_ascii_digit s else record { what = []; rest = b ∷ s }
 
 -- an exponent's digits, if there are any; `s` is the text without the exponent
 abbrev pub exponent_from : (ℕ → ℤ) → List ℕ → Read (List ℕ) → Read ℤ
@@ -58,9 +57,9 @@ exponent_from signed s digits =
 abbrev pub signed_exponent : List ℕ → List ℕ → Read ℤ
 signed_exponent s [] = record { what = pos 0; rest = s }
 signed_exponent s (b ∷ after) =
-    if b == 45 then exponent_from (λ n. neg_ℤ (pos n)) s (run_of is_digit after)
-    else if b == 43 then exponent_from pos s (run_of is_digit after)
-    else exponent_from pos s (run_of is_digit (b ∷ after))
+    if b == 45 then exponent_from (λ n. neg_ℤ (pos n)) s (run_of is_ascii_digit after)
+    else if b == 43 then exponent_from pos s (run_of is_ascii_digit after)
+    else exponent_from pos s (run_of is_ascii_digit (b ∷ after))
 
 -- `e` (101) or `E` (69) and a number; an `e` that none follows is no exponent
 abbrev pub exponent_at : List ℕ → Read ℤ
@@ -75,18 +74,18 @@ decimal_from whole fraction exponent = record {
 
 abbrev pub decimal_at : List ℕ → Read Decimal
 decimal_at s =
-    let whole = run_of is_digit s in
+    let whole = run_of is_ascii_digit s in
     let fraction = fraction_at whole.rest in
     decimal_from whole fraction (exponent_at fraction.rest)
 
 -- a number begins with a digit, or with a point before a digit
 abbrev pub begins_decimal : List ℕ → Bool
 begins_decimal [] = false
-begins_decimal (b ∷ []) = is_digit b
-begins_decimal (b ∷ c ∷ s) = is_digit b || (b == 46 && is_digit c)
+begins_decimal (b ∷ []) = is_ascii_digit b
+begins_decimal (b ∷ c ∷ s) = is_ascii_digit b || (b == 46 && is_ascii_digit c)
 
 pub data Part : Type 0 where
-  leaf : Tree → Part
+  operand : Leaf → Part
   plus : Part
   minus : Part
   times : Part
@@ -94,8 +93,8 @@ pub data Part : Type 0 where
   opening : Part
   closing : Part
 
-abbrev pub named : (List ℕ → Tree) → Read (List ℕ) → Option (Read Part)
-named tree run = if length run.what == 0 then None else Some (record { what = leaf (tree run.what); rest = run.rest })
+abbrev pub named : (List ℕ → Leaf) → Read (List ℕ) → Option (Read Part)
+named leaf_of run = if length run.what == 0 then None else Some (record { what = operand (leaf_of run.what); rest = run.rest })
 
 abbrev pub one : Part → List ℕ → Option (Read Part)
 one part s = Some (record { what = part; rest = s })
@@ -111,8 +110,8 @@ part_at (b ∷ s) =
     else if b == 40 then one opening s
     else if b == 41 then one closing s
     else if b == 36 then named name (run_of is_name_byte s)
-    else if begins_decimal (b ∷ s) then Some (record { what = leaf (number (decimal_at (b ∷ s)).what); rest = (decimal_at (b ∷ s)).rest })
-    else named unit (run_of is_letter (b ∷ s))
+    else if begins_decimal (b ∷ s) then Some (record { what = operand (number (decimal_at (b ∷ s)).what); rest = (decimal_at (b ∷ s)).rest })
+    else named unit (run_of is_ascii_alphabetic (b ∷ s))
 
 abbrev pub in_front : Part → Option (List Part) → Option (List Part)
 in_front part None = None
@@ -176,7 +175,7 @@ most_open = 64
 -- it, or none does.
 abbrev pub tree_from : List Level → Level → Option Tree → List Part → Option Tree
 tree_from outer here None [] = None
-tree_from outer here None (leaf t ∷ parts) = tree_from outer here (Some t) parts
+tree_from outer here None (operand l ∷ parts) = tree_from outer here (Some (leaf l)) parts
 tree_from outer here None (plus ∷ parts) = tree_from outer here None parts
 tree_from outer here None (minus ∷ parts) = tree_from outer (negated here) None parts
 tree_from outer here None (times ∷ parts) = None
@@ -185,7 +184,7 @@ tree_from outer here None (opening ∷ parts) = if nat_lt (length outer) most_op
 tree_from outer here None (closing ∷ parts) = None
 tree_from [] here (Some t) [] = Some (whole_of here t)
 tree_from (around ∷ outer) here (Some t) [] = None
-tree_from outer here (Some t) (leaf u ∷ parts) = None
+tree_from outer here (Some t) (operand l ∷ parts) = None
 tree_from outer here (Some t) (plus ∷ parts) = tree_from outer (next_term sum here t) None parts
 tree_from outer here (Some t) (minus ∷ parts) = tree_from outer (next_term difference here t) None parts
 tree_from outer here (Some t) (times ∷ parts) = tree_from outer (next_factor product here t) None parts

@@ -1,5 +1,6 @@
 ghost use Rattle.std.specs.Prelude.{◌≡◌, EachIndex, slice_index, IsTrue};
-ghost use Rattle.gx_expr.specs.Tree.{is_digit, fraction_at, decimal_at};
+ghost use Rattle.gx_expr.specs.Tree.{fraction_at, decimal_at};
+ghost use Rattle.std.specs.Char.{is_ascii_digit};
 ghost use Rattle.gx_expr.specs.Eval.{worth_of_decimal};
 
 use crate::digits::Digits;
@@ -28,7 +29,7 @@ pub fn number(text: &mut Text) -> Result<Value, ExprFault>
 fn fraction<'a>(text: &mut Text<'a>) -> &'a [u8]
     ensures what { result.now ≡ (fraction_at text.old).what }
     ensures rest { text.new ≡ (fraction_at text.old).rest }
-    ensures digits { EachIndex result.now (λ k. IsTrue (is_digit (slice_index result.now k))) }
+    ensures digits { EachIndex result.now (λ k. IsTrue (is_ascii_digit (slice_index result.now k))) }
 {
     if text.take(b'.') {
         text.run(Class::Digit)

@@ -15,14 +15,14 @@ pub struct Digits {
 
 impl Digits {
     ghost use Rattle.std.specs.Prelude.{ℕ, List, [], ◌∷◌, ◌++◌, ◌≡◌, ◌+◌, ◌-◌, EachIndex, slice_index, IsTrue};
-    ghost use Rattle.gx_expr.specs.Tree.{is_digit};
+    ghost use Rattle.std.specs.Char.{is_ascii_digit};
     ghost use Rattle.gx_expr.specs.Digits.{IsSeen, worth_seen};
     ghost use Rattle.gx_expr.specs.Eval.{trimmed};
 
     // The digits before a point and those after it.
     pub fn of(whole: &[u8], fraction: &[u8]) -> Digits
-        requires whole { EachIndex whole.now (λ k. IsTrue (is_digit (slice_index whole.now k))) }
-        requires fraction { EachIndex fraction.now (λ k. IsTrue (is_digit (slice_index fraction.now k))) }
+        requires whole { EachIndex whole.now (λ k. IsTrue (is_ascii_digit (slice_index whole.now k))) }
+        requires fraction { EachIndex fraction.now (λ k. IsTrue (is_ascii_digit (slice_index fraction.now k))) }
         ensures { IsSeen (trimmed (whole.now ++ fraction.now)) result }
     {
         let mut digits = Digits {
@@ -38,7 +38,7 @@ impl Digits {
 
     // One more digit at the end.
     fn push(&mut self, digit: u8)
-        requires digit { IsTrue (is_digit digit) }
+        requires digit { IsTrue (is_ascii_digit digit) }
         requires room { self.old.count + self.old.zeros < 2 ^ 64 - 1 }
         ensures { (digits : List ℕ) → IsSeen (trimmed digits) self.old → IsSeen (trimmed (digits ++ digit ∷ [])) self.new }
     {

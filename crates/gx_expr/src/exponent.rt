@@ -1,5 +1,6 @@
 ghost use Rattle.std.specs.Prelude.{◌≡◌, List, ℕ, min, pos, length, EachIndex, slice_index, IsTrue};
-ghost use Rattle.gx_expr.specs.Tree.{exponent_at, signed_exponent, exponent_from, value_of_digits, is_digit, run_of};
+ghost use Rattle.gx_expr.specs.Tree.{exponent_at, signed_exponent, exponent_from, value_of_digits, run_of};
+ghost use Rattle.std.specs.Char.{is_ascii_digit};
 ghost use Rattle.gx_expr.specs.Digits.{IsPower, power_of, HasMark};
 
 use crate::text::{Class, Text};
@@ -47,7 +48,7 @@ fn mark(text: &mut Text) -> bool
 
 // Passes the sign, if there is one: whether it is `-`.
 fn minus(text: &mut Text) -> bool
-    ensures { (s : List ℕ) → signed_exponent s text.old ≡ exponent_from (power_of result) s (run_of is_digit text.new) }
+    ensures { (s : List ℕ) → signed_exponent s text.old ≡ exponent_from (power_of result) s (run_of is_ascii_digit text.new) }
 {
     if text.take(b'-') {
         return true;
@@ -58,7 +59,7 @@ fn minus(text: &mut Text) -> bool
 
 // The magnitude that digits make, up to `MOST`.
 fn size_of(digits: &[u8]) -> u128
-    requires { EachIndex digits.now (λ k. IsTrue (is_digit (slice_index digits.now k))) }
+    requires { EachIndex digits.now (λ k. IsTrue (is_ascii_digit (slice_index digits.now k))) }
     ensures { result ≡ min MOST (value_of_digits digits.now) }
 {
     let mut size: u128 = 0;
