@@ -7,7 +7,7 @@ use Rattle.std.proofs.lemmas.Bool.{and_parts, cases_Bool, eqb-true}
 use Rattle.std.proofs.lemmas.List.{reverse-append, reverse-reverse, take_all, take-append-le}
 use Rattle.std.proofs.lemmas.List.Sums.{fold_push}
 use Rattle.gx_expr.specs.Eval.{zeros_before, zeros_after, trimmed, front_of}
-use Rattle.gx_expr.specs.Tree.{value_of_digits}
+use Rattle.gx_expr.specs.Token.{value_of_digits}
 use Rattle.std.specs.Char.{is_ascii_digit}
 use Rattle.gx_expr.proofs.Numbers.{digit_range}
 
@@ -78,4 +78,3 @@ trimmed_value (c ∷ s) = elim (cases_Bool (c == 48)) [
   | inl zero ↦ let nothing : 0 ≡ 10 * 0 + (c - 48) = omega (arith, eqb-true c 48 zero) in rw (trimmed-cons c s, zero) (trimmed_value s ∙ ap (λ (value : ℕ). fold step value s) nothing)
   | inr other ↦ rw (trimmed-cons c s, other) refl
 ]
-

@@ -8,13 +8,14 @@ use Rattle.gx_expr.specs.declared.fault.ExprFault.{ExprFault}
 use Rattle.gx_expr.specs.declared.fault.ExprFault.TheVariants.{UnknownParam, UnknownUnit}
 use Rattle.gx_table.specs.Table.{number_in}
 use Rattle.gx_expr.specs.Descent.{begins, IsSumEnd, IsProductEnd, tree_on, anywhere, IsRead, HasNone}
-use Rattle.gx_expr.specs.Eval.{worth_of_leaf, worth_of_decimal, found, units, unit_of}
-use Rattle.gx_expr.specs.Param.{Param, value_of}
-use Rattle.gx_expr.specs.Tree.{is_name_byte, Leaf, leaf, number, name, unit, Part, operand, times, over, closing, Level, Read, run_of, value_of_digits, fraction_at, exponent_at, exponent_from, signed_exponent, decimal_at, begins_decimal, named, part_at, tree_from}
+use Rattle.gx_expr.specs.Eval.{value_of_leaf, value_of_decimal, found, units, unit_of}
+use Rattle.gx_expr.specs.Param.{Param, value_of_name}
+use Rattle.gx_expr.specs.Token.{is_name_byte, Leaf, number, name, unit, Token, operand, times, over, closing, Read, run_of, value_of_digits, fraction_at, exponent_at, exponent_from, signed_exponent, decimal_at, begins_decimal, named, token_at}
+use Rattle.gx_expr.specs.Tree.{leaf, Context, tree_from}
 use Rattle.std.specs.Char.{is_ascii_digit, is_ascii_alphabetic}
-use Rattle.gx_expr.specs.Worth.{Worth}
-use Rattle.gx_expr.proofs.Parts.{parts_of-step}
-use Rattle.gx_expr.proofs.Trees.{on-leaf, none-part, none-empty, none-unread}
+use Rattle.gx_expr.specs.Quantity.{Quantity}
+use Rattle.gx_expr.proofs.Tokens.{tokens_of-step}
+use Rattle.gx_expr.proofs.Trees.{on-leaf, none-token, none-empty, none-unread}
 
 -- ---- any leaf
 
@@ -22,17 +23,17 @@ use Rattle.gx_expr.proofs.Trees.{on-leaf, none-part, none-empty, none-unread}
 abbrev IsTail : List ℕ → List ℕ → Type 0
 IsTail rest s = (k : ℕ) × (rest ≡ drop k s)
 
-leaf-at : (open_count : ℕ) (params : List Param) (b : ℕ) (s : List ℕ) (k : ℕ) (l : Leaf) (value : Result Worth ExprFault) → part_at (b ∷ s) ≡ Some (record { what = operand l; rest = drop k s }) → worth_of_leaf params l ≡ value → IsRead anywhere open_count params (b ∷ s) value (drop k s)
-leaf-at open_count params b s k l value e worth = record {
+leaf-at : (open_count : ℕ) (params : List Param) (b : ℕ) (s : List ℕ) (k : ℕ) (l : Leaf) (value : Result Quantity ExprFault) → token_at (b ∷ s) ≡ Some (record { what = operand l; rest = drop k s }) → value_of_leaf params l ≡ value → IsRead anywhere open_count params (b ∷ s) value (drop k s)
+leaf-at open_count params b s k l value e gives = record {
   tree = leaf l;
-  worth = worth;
+  gives = gives;
   longer = omega (arith, length-drop k s);
-  front = λ outer here same. on-leaf outer here l (b ∷ s) (drop k s) (parts_of-step b s k (operand l) e);
+  front = λ outer here same. on-leaf outer here l (b ∷ s) (drop k s) (tokens_of-step b s k (operand l) e);
 }
 
-leaf-read : (open_count : ℕ) (params : List Param) (b : ℕ) (s rest : List ℕ) (l : Leaf) (value : Result Worth ExprFault) → IsTail rest s → part_at (b ∷ s) ≡ Some (record { what = operand l; rest = rest }) → worth_of_leaf params l ≡ value → IsRead anywhere open_count params (b ∷ s) value rest
-leaf-read open_count params b s rest l value tail e worth =
-    subst (λ (r : List ℕ). IsRead anywhere open_count params (b ∷ s) value r) (sym tail.1) (leaf-at open_count params b s tail.0 l value (e ∙ ap (λ (r : List ℕ). Some (record { what = operand l; rest = r })) tail.1) worth)
+leaf-read : (open_count : ℕ) (params : List Param) (b : ℕ) (s rest : List ℕ) (l : Leaf) (value : Result Quantity ExprFault) → IsTail rest s → token_at (b ∷ s) ≡ Some (record { what = operand l; rest = rest }) → value_of_leaf params l ≡ value → IsRead anywhere open_count params (b ∷ s) value rest
+leaf-read open_count params b s rest l value tail e gives =
+    subst (λ (r : List ℕ). IsRead anywhere open_count params (b ∷ s) value r) (sym tail.1) (leaf-at open_count params b s tail.0 l value (e ∙ ap (λ (r : List ℕ). Some (record { what = operand l; rest = r })) tail.1) gives)
 
 -- ---- numbers
 
@@ -89,31 +90,31 @@ number-other : (b k : ℕ) → (b ≡ 46) ⊎ (is_ascii_digit b ≡ true) → k 
 number-other b k (inl e) h g = ne_eqb b k (λ same. h (sym same ∙ e))
 number-other b k (inr e) h g = ne_eqb b k (λ same. let low = leb-true 48 b (and_parts (nat_le 48 b) (nat_le b 57) e).0 in absurd (omega arith))
 
-number-leaf : (b : ℕ) (s : List ℕ) → begins_decimal (b ∷ s) ≡ true → part_at (b ∷ s) ≡ Some (record { what = operand (number (decimal_at (b ∷ s)).what); rest = (decimal_at (b ∷ s)).rest })
+number-leaf : (b : ℕ) (s : List ℕ) → begins_decimal (b ∷ s) ≡ true → token_at (b ∷ s) ≡ Some (record { what = operand (number (decimal_at (b ∷ s)).what); rest = (decimal_at (b ∷ s)).rest })
 number-leaf b s h =
     let other = λ (k : ℕ) (g : k ≢ 46) (l : k < 48). number-other b k (number-byte b s h) g l in
     rw (other 43 (omega arith) (omega arith), other 45 (omega arith) (omega arith), other 42 (omega arith) (omega arith), other 47 (omega arith) (omega arith), other 40 (omega arith) (omega arith), other 41 (omega arith) (omega arith), other 36 (omega arith) (omega arith), h) refl
 
-pub number_read : (open_count : ℕ) (params : List Param) (s new : List ℕ) (value : Result Worth ExprFault) → begins_decimal s ≡ true → value ≡ worth_of_decimal (decimal_at s).what → new ≡ (decimal_at s).rest → IsRead anywhere open_count params s value new
-number_read open_count params [] new value h worth rest = cc
-number_read open_count params (b ∷ s) new value h worth rest =
-    rw rest (leaf-read open_count params b s (decimal_at (b ∷ s)).rest (number (decimal_at (b ∷ s)).what) value (numbered b s (is_ascii_digit b) (number-byte b s h)) (number-leaf b s h) (sym worth))
+pub number_read : (open_count : ℕ) (params : List Param) (s new : List ℕ) (value : Result Quantity ExprFault) → begins_decimal s ≡ true → value ≡ value_of_decimal (decimal_at s).what → new ≡ (decimal_at s).rest → IsRead anywhere open_count params s value new
+number_read open_count params [] new value h gives rest = cc
+number_read open_count params (b ∷ s) new value h gives rest =
+    rw rest (leaf-read open_count params b s (decimal_at (b ∷ s)).rest (number (decimal_at (b ∷ s)).what) value (numbered b s (is_ascii_digit b) (number-byte b s h)) (number-leaf b s h) (sym gives))
 
 -- ---- names and units
 
-pub name_read : (open_count : ℕ) (params : List Param) (s mid what new : List ℕ) (value : Result Worth ExprFault) → s ≡ 36 ∷ mid → what ≡ (run_of is_name_byte mid).what → new ≡ (run_of is_name_byte mid).rest → length what == 0 ≡ false → value ≡ found UnknownParam (λ w. w) (value_of params what) → IsRead anywhere open_count params s value new
-name_read open_count params s mid what new value first e rest some worth =
-    let part : part_at (36 ∷ mid) ≡ Some (record { what = operand (name (run_of is_name_byte mid).what); rest = (run_of is_name_byte mid).rest }) = rw (rw e at some) refl in
-    rw (first, rest) (leaf-read open_count params 36 mid (run_of is_name_byte mid).rest (name (run_of is_name_byte mid).what) value (run-tail is_name_byte mid) part (sym (rw e at worth)))
+pub name_read : (open_count : ℕ) (params : List Param) (s mid what new : List ℕ) (value : Result Quantity ExprFault) → s ≡ 36 ∷ mid → what ≡ (run_of is_name_byte mid).what → new ≡ (run_of is_name_byte mid).rest → length what == 0 ≡ false → value ≡ found UnknownParam (λ w. w) (value_of_name params what) → IsRead anywhere open_count params s value new
+name_read open_count params s mid what new value first e rest some gives =
+    let token : token_at (36 ∷ mid) ≡ Some (record { what = operand (name (run_of is_name_byte mid).what); rest = (run_of is_name_byte mid).rest }) = rw (rw e at some) refl in
+    rw (first, rest) (leaf-read open_count params 36 mid (run_of is_name_byte mid).rest (name (run_of is_name_byte mid).what) value (run-tail is_name_byte mid) token (sym (rw e at gives)))
 
 pub name_none : (open_count : ℕ) (s mid what : List ℕ) → s ≡ 36 ∷ mid → what ≡ (run_of is_name_byte mid).what → length what == 0 ≡ true → HasNone anywhere open_count s
 name_none open_count s mid what first e none =
-    let part : part_at (36 ∷ mid) ≡ None = rw (rw e at none) refl in
-    rw first (record { front = λ outer here same. none-unread outer here None 36 mid part })
+    let token : token_at (36 ∷ mid) ≡ None = rw (rw e at none) refl in
+    rw first (record { front = λ outer here same. none-unread outer here None 36 mid token })
 
--- where none of the other parts begins, a unit may
-unit-part : (b : ℕ) (s : List ℕ) → IsSumEnd (b ∷ s) → IsProductEnd (b ∷ s) → begins 40 (b ∷ s) ≡ false → begins 41 (b ∷ s) ≡ false → begins 36 (b ∷ s) ≡ false → begins_decimal (b ∷ s) ≡ false → part_at (b ∷ s) ≡ named unit (run_of is_ascii_alphabetic (b ∷ s))
-unit-part b s sums products opening_not closing_not dollar_not number_not = rw (sums.plus, sums.minus, products.times, products.over, opening_not, closing_not, dollar_not, number_not) refl
+-- where none of the other tokens begins, a unit may
+unit-token : (b : ℕ) (s : List ℕ) → IsSumEnd (b ∷ s) → IsProductEnd (b ∷ s) → begins 40 (b ∷ s) ≡ false → begins 41 (b ∷ s) ≡ false → begins 36 (b ∷ s) ≡ false → begins_decimal (b ∷ s) ≡ false → token_at (b ∷ s) ≡ named unit (run_of is_ascii_alphabetic (b ∷ s))
+unit-token b s sums products opening_not closing_not dollar_not number_not = rw (sums.plus, sums.minus, products.times, products.over, opening_not, closing_not, dollar_not, number_not) refl
 
 letter-above : (b : ℕ) → is_ascii_alphabetic b ≡ true → 65 ≤ b
 letter-above b h = elim (or_cases (nat_le 65 b && nat_le b 90) (nat_le 97 b && nat_le b 122) h) [
@@ -121,26 +122,26 @@ letter-above b h = elim (or_cases (nat_le 65 b && nat_le b 90) (nat_le 97 b && n
   | inr lower ↦ let low = leb-true 97 b (and_parts (nat_le 97 b) (nat_le b 122) lower).0 in omega arith
 ]
 
-letter-part : (b : ℕ) (s : List ℕ) → is_ascii_alphabetic b ≡ true → IsSumEnd (b ∷ s) → begins 40 (b ∷ s) ≡ false → begins 36 (b ∷ s) ≡ false → begins_decimal (b ∷ s) ≡ false → part_at (b ∷ s) ≡ named unit (run_of is_ascii_alphabetic (b ∷ s))
-letter-part b s letter sums opening_not dollar_not number_not =
+letter-token : (b : ℕ) (s : List ℕ) → is_ascii_alphabetic b ≡ true → IsSumEnd (b ∷ s) → begins 40 (b ∷ s) ≡ false → begins 36 (b ∷ s) ≡ false → begins_decimal (b ∷ s) ≡ false → token_at (b ∷ s) ≡ named unit (run_of is_ascii_alphabetic (b ∷ s))
+letter-token b s letter sums opening_not dollar_not number_not =
     let above = letter-above b letter in
     let other = λ (k : ℕ) (h : k < 65). ne_eqb b k (λ e. absurd (omega arith)) in
-    unit-part b s sums (record { times = other 42 (omega arith); over = other 47 (omega arith) }) opening_not (other 41 (omega arith)) dollar_not number_not
+    unit-token b s sums (record { times = other 42 (omega arith); over = other 47 (omega arith) }) opening_not (other 41 (omega arith)) dollar_not number_not
 
-pub unit_read : (open_count : ℕ) (params : List Param) (s what new : List ℕ) (value : Result Worth ExprFault) → IsSumEnd s → begins 40 s ≡ false → begins 36 s ≡ false → begins_decimal s ≡ false → what ≡ (run_of is_ascii_alphabetic s).what → new ≡ (run_of is_ascii_alphabetic s).rest → length what == 0 ≡ false → value ≡ found UnknownUnit unit_of (number_in units what) → IsRead anywhere open_count params s value new
-unit_read open_count params [] what new value sums opening_not dollar_not number_not e rest some worth = let wrong = rw e at some in cc
-unit_read open_count params (b ∷ s) what new value sums opening_not dollar_not number_not e rest some worth =
+pub unit_read : (open_count : ℕ) (params : List Param) (s what new : List ℕ) (value : Result Quantity ExprFault) → IsSumEnd s → begins 40 s ≡ false → begins 36 s ≡ false → begins_decimal s ≡ false → what ≡ (run_of is_ascii_alphabetic s).what → new ≡ (run_of is_ascii_alphabetic s).rest → length what == 0 ≡ false → value ≡ found UnknownUnit unit_of (number_in units what) → IsRead anywhere open_count params s value new
+unit_read open_count params [] what new value sums opening_not dollar_not number_not e rest some gives = let wrong = rw e at some in cc
+unit_read open_count params (b ∷ s) what new value sums opening_not dollar_not number_not e rest some gives =
     let word = run_of is_ascii_alphabetic (b ∷ s) in
     elim (cases_Bool (is_ascii_alphabetic b)) [
       | inl letter ↦
           let tail : IsTail word.rest s = (prefix_len is_ascii_alphabetic s, rw (letter, one-add) refl) in
-          let part = letter-part b s letter sums opening_not dollar_not number_not ∙ rw (rw e at some) refl in
-          rw rest (leaf-read open_count params b s word.rest (unit word.what) value tail part (sym (rw e at worth)))
+          let token = letter-token b s letter sums opening_not dollar_not number_not ∙ rw (rw e at some) refl in
+          rw rest (leaf-read open_count params b s word.rest (unit word.what) value tail token (sym (rw e at gives)))
       | inr letter_not ↦ let wrong = rw (e, letter_not) at some in cc
     ]
 
-none-byte : (outer : List Level) (here : Level) (part : Part) (b byte : ℕ) (s : List ℕ) → b == byte ≡ true → part_at (byte ∷ s) ≡ Some (record { what = part; rest = s }) → ((ps : List Part) → tree_from outer here None (part ∷ ps) ≡ None) → tree_on outer here None (b ∷ s) ≡ None
-none-byte outer here part b byte s same e h = rw (eqb-true b byte same) (none-part outer here None part (byte ∷ s) s (parts_of-step byte s 0 part e) h)
+none-byte : (outer : List Context) (here : Context) (token : Token) (b byte : ℕ) (s : List ℕ) → b == byte ≡ true → token_at (byte ∷ s) ≡ Some (record { what = token; rest = s }) → ((ps : List Token) → tree_from outer here None (token ∷ ps) ≡ None) → tree_on outer here None (b ∷ s) ≡ None
+none-byte outer here token b byte s same e h = rw (eqb-true b byte same) (none-token outer here None token (byte ∷ s) s (tokens_of-step byte s 0 token e) h)
 
 pub unit_none : (open_count : ℕ) (s what : List ℕ) → IsSumEnd s → begins 40 s ≡ false → begins 36 s ≡ false → begins_decimal s ≡ false → what ≡ (run_of is_ascii_alphabetic s).what → length what == 0 ≡ true → HasNone anywhere open_count s
 unit_none open_count [] what sums opening_not dollar_not number_not e none = record { front = λ outer here same. none-empty outer here }
@@ -153,7 +154,7 @@ unit_none open_count (b ∷ s) what sums opening_not dollar_not number_not e non
           | inr over_not ↦ elim (cases_Bool (b == 41)) [
             | inl e ↦ none-byte outer here closing b 41 s e refl (λ ps. refl)
             | inr closing_not ↦
-                none-unread outer here None b s (unit-part b s sums (record { times = times_not; over = over_not }) opening_not closing_not dollar_not number_not ∙ rw (rw e at none) refl)
+                none-unread outer here None b s (unit-token b s sums (record { times = times_not; over = over_not }) opening_not closing_not dollar_not number_not ∙ rw (rw e at none) refl)
           ]
         ]
       ];

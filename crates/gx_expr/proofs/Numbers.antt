@@ -10,14 +10,14 @@ use Rattle.gx_num.specs.Number.{common_divisor}
 use Rattle.gx_num.proofs.Divisors.{common_divisor-same, IsDivisor-two}
 use Rattle.gx_fraction.specs.Fraction.{Fraction, lowest}
 use Rattle.gx_expr.specs.declared.digits.Digits.{Digits}
-use Rattle.gx_expr.specs.declared.exponent.TheConstants.{MOST}
+use Rattle.gx_expr.specs.declared.exponent.TheConstants.{MAX_SIZE}
 use Rattle.gx_expr.specs.declared.fault.ExprFault.{ExprFault}
 use Rattle.gx_expr.specs.declared.fault.ExprFault.TheVariants.{TooWide}
-use Rattle.gx_expr.specs.Digits.{placed, worth_seen}
+use Rattle.gx_expr.specs.Digits.{placed, value_kept}
 use Rattle.gx_expr.specs.Eval.{if_short}
-use Rattle.gx_expr.specs.Tree.{value_of_digits}
+use Rattle.gx_expr.specs.Token.{value_of_digits}
 use Rattle.std.specs.Char.{is_ascii_digit}
-use Rattle.gx_expr.specs.Worth.{Worth, ratio, if_narrow}
+use Rattle.gx_expr.specs.Quantity.{Quantity, ratio, if_narrow}
 
 pub shift_small : (n k : ℕ) → n < 10 ^ 18 → k ≤ 18 → n * 10 ^ k < 2 ^ 125
 shift_small n k h g = omega (arith, mul-le n (10 ^ k) (10 ^ 18) (10 ^ 18) (omega arith) (pow-le-pow_right {n = 10} (omega arith) g))
@@ -62,7 +62,7 @@ placed_is digits few up down = elim (cases_lt up down) [
       rw (k, few, le-leb down up le) refl
 ]
 
--- ---- exponents beyond MOST
+-- ---- exponents beyond MAX_SIZE
 
 placed-far : (n up down : ℕ) → down + 18 < up → placed n up down ≡ Err TooWide
 placed-far n up down h = rw (le-leb down up (omega arith), lt-ltb 18 (up - down) (omega arith)) refl
@@ -70,23 +70,23 @@ placed-far n up down h = rw (le-leb down up (omega arith), lt-ltb 18 (up - down)
 placed-low : (n up down : ℕ) → up + 18 < down → placed n up down ≡ Err TooWide
 placed-low n up down h = rw (lt-leb down up (omega arith), lt-ltb 18 (down - up) (omega arith)) refl
 
--- the digits' value at an exponent is that at the exponent up to MOST
+-- the digits' value at an exponent is that at the exponent up to MAX_SIZE
 module _ (d : Digits) where
-  shown : (p q : ℕ × ℕ) → placed d.value (p.0 + d.zeros) p.1 ≡ placed d.value (q.0 + d.zeros) q.1 → worth_seen d p.0 p.1 ≡ worth_seen d q.0 q.1
-  shown p q e = ap (λ (x : Result Worth ExprFault). if d.count == 0 then ratio (pos 0) (pos 1) false false else if nat_lt 18 d.count then Err TooWide else x) e
+  shown : (p q : ℕ × ℕ) → placed d.value (p.0 + d.zeros) p.1 ≡ placed d.value (q.0 + d.zeros) q.1 → value_kept d p.0 p.1 ≡ value_kept d q.0 q.1
+  shown p q e = ap (λ (x : Result Quantity ExprFault). if d.count == 0 then ratio (pos 0) (pos 1) false false else if nat_lt 18 d.count then Err TooWide else x) e
 
-  pub capped_up : (n places : ℕ) → places < 2 ^ 64 → worth_seen d (min MOST n) places ≡ worth_seen d n places
-  capped_up n places h = elim (cases_lt MOST n) [
+  pub capped_up : (n places : ℕ) → places < 2 ^ 64 → value_kept d (min MAX_SIZE n) places ≡ value_kept d n places
+  capped_up n places h = elim (cases_lt MAX_SIZE n) [
     | inl lt ↦
-        let e : min MOST n ≡ MOST = min-eq_left (omega (arith, lt)) in
-        shown (min MOST n, places) (n, places) (rw e (placed-far d.value (MOST + d.zeros) places (omega arith)) ∙ sym (placed-far d.value (n + d.zeros) places (omega arith)))
-    | inr le ↦ let e : min MOST n ≡ n = min-eq_right le in ap (λ (x : ℕ). worth_seen d x places) e
+        let e : min MAX_SIZE n ≡ MAX_SIZE = min-eq_left (omega (arith, lt)) in
+        shown (min MAX_SIZE n, places) (n, places) (rw e (placed-far d.value (MAX_SIZE + d.zeros) places (omega arith)) ∙ sym (placed-far d.value (n + d.zeros) places (omega arith)))
+    | inr le ↦ let e : min MAX_SIZE n ≡ n = min-eq_right le in ap (λ (x : ℕ). value_kept d x places) e
   ]
 
-  pub capped_down : (n places : ℕ) → d.zeros < 2 ^ 64 → worth_seen d 0 (places + min MOST n) ≡ worth_seen d 0 (places + n)
-  capped_down n places h = elim (cases_lt MOST n) [
+  pub capped_down : (n places : ℕ) → d.zeros < 2 ^ 64 → value_kept d 0 (places + min MAX_SIZE n) ≡ value_kept d 0 (places + n)
+  capped_down n places h = elim (cases_lt MAX_SIZE n) [
     | inl lt ↦
-        let e : min MOST n ≡ MOST = min-eq_left (omega (arith, lt)) in
-        shown (0, places + min MOST n) (0, places + n) (rw e (placed-low d.value (0 + d.zeros) (places + MOST) (omega arith)) ∙ sym (placed-low d.value (0 + d.zeros) (places + n) (omega arith)))
-    | inr le ↦ let e : min MOST n ≡ n = min-eq_right le in ap (λ (x : ℕ). worth_seen d 0 (places + x)) e
+        let e : min MAX_SIZE n ≡ MAX_SIZE = min-eq_left (omega (arith, lt)) in
+        shown (0, places + min MAX_SIZE n) (0, places + n) (rw e (placed-low d.value (0 + d.zeros) (places + MAX_SIZE) (omega arith)) ∙ sym (placed-low d.value (0 + d.zeros) (places + n) (omega arith)))
+    | inr le ↦ let e : min MAX_SIZE n ≡ n = min-eq_right le in ap (λ (x : ℕ). value_kept d 0 (places + x)) e
   ]

@@ -10,11 +10,11 @@ use Rattle.std.proofs.lemmas.Option.{none-some}
 use Rattle.gx_expr.specs.declared.operator.Operator.TheVariants.{Minus}
 use Rattle.gx_expr.specs.Descent.{signed, IsSigned}
 use Rattle.gx_expr.specs.Digits.{few_digits, plain_number}
-use Rattle.gx_expr.specs.Eval.{zeros_before, zeros_after, trimmed, front_of, if_short, worth_of_decimal, evaluated}
+use Rattle.gx_expr.specs.Eval.{zeros_before, zeros_after, trimmed, front_of, if_short, value_of_decimal, value_of_word}
 use Rattle.gx_expr.specs.Param.{Param}
-use Rattle.gx_expr.specs.Tree.{value_of_digits, decimal_at, begins_decimal, Decimal, Read}
+use Rattle.gx_expr.specs.Token.{value_of_digits, decimal_at, begins_decimal, Decimal, Read}
 use Rattle.std.specs.Char.{is_ascii_digit}
-use Rattle.gx_expr.specs.Worth.{ratio}
+use Rattle.gx_expr.specs.Quantity.{ratio}
 use Rattle.gx_expr.proofs.Numbers.{ratio-whole}
 use Rattle.gx_expr.proofs.Descent.{signs_none, signs_more, factor_reads, term_first, expr_first, word_whole}
 use Rattle.gx_expr.proofs.DigitValues.{digits-below, front_value, trimmed_value}
@@ -26,7 +26,7 @@ no_value : (s : List ℕ) → length s ≡ 0 → value_of_digits s ≡ 0
 no_value [] e = refl
 no_value (b ∷ s) e = absurd (omega arith)
 
-decimal_whole : (s : List ℕ) → length s ≤ 18 → worth_of_decimal (record { digits = s; scale = pos 0 }) ≡ ratio (pos (value_of_digits s)) (pos 1) false false
+decimal_whole : (s : List ℕ) → length s ≤ 18 → value_of_decimal (record { digits = s; scale = pos 0 }) ≡ ratio (pos (value_of_digits s)) (pos 1) false false
 decimal_whole s h =
     let zeros = zeros_after (trimmed s) in
     let inner = front_of (trimmed s) in
@@ -83,12 +83,12 @@ few_parts s n e = elim (cases_Bool (length s == 0)) [
 ]
 
 module _ (params : List Param) (word : List ℕ) (negative : Bool) (n : ℕ) where
-  few_read : (s : List ℕ) → IsSigned word s negative → IsFew s n → signed negative (ratio (pos n) (pos 1) false false) ≡ evaluated params word
+  few_read : (s : List ℕ) → IsSigned word s negative → IsFew s n → signed negative (ratio (pos n) (pos 1) false false) ≡ value_of_word params word
   few_read [] signs few = absurd (omega (arith, few.some))
   few_read (b ∷ s) signs few =
       let decimal = digits-decimal (b ∷ s) few.digits in
-      let value : ratio (pos n) (pos 1) false false ≡ worth_of_decimal (decimal_at (b ∷ s)).what =
-      sym (ap (λ (read : Read Decimal). worth_of_decimal read.what) decimal ∙ decimal_whole (b ∷ s) (omega (arith, few.few)) ∙ ap (λ (k : ℕ). ratio (pos k) (pos 1) false false) few.value) in
+      let value : ratio (pos n) (pos 1) false false ≡ value_of_decimal (decimal_at (b ∷ s)).what =
+      sym (ap (λ (read : Read Decimal). value_of_decimal read.what) decimal ∙ decimal_whole (b ∷ s) (omega (arith, few.few)) ∙ ap (λ (k : ℕ). ratio (pos k) (pos 1) false false) few.value) in
       let read = number_read 0 params (b ∷ s) [] (ratio (pos n) (pos 1) false false) (begins b s (and_parts (is_ascii_digit b) (list_all is_ascii_digit s) few.digits).0) value (sym (ap (λ (read : Read Decimal). read.rest) decimal)) in
       word_whole params word _ (expr_first 0 params word [] _ (term_first 0 params word [] _ (factor_reads 0 params word (b ∷ s) [] negative _ signs read)))
 
@@ -102,7 +102,7 @@ mapped : (f : ℕ → ℤ) (o : Option ℕ) (z : ℤ) → option_map f o ≡ Som
 mapped f None z e = absurd (none-some z e)
 mapped f (Some n) z e = (n, refl, cc)
 
-pub plain_word : (params : List Param) (word : List ℕ) (z : ℤ) → plain_number word ≡ Some z → ratio z (pos 1) false false ≡ evaluated params word
+pub plain_word : (params : List Param) (word : List ℕ) (z : ℤ) → plain_number word ≡ Some z → ratio z (pos 1) false false ≡ value_of_word params word
 plain_word params [] z e = absurd (none-some z e)
 plain_word params (b ∷ s) z e = elim (cases_Bool (b == 45)) [
   | inl minus ↦

@@ -2,36 +2,36 @@
 use Rattle.std.specs.Prelude.{◌≡◌, ℕ, ◌+◌, ◌-◌, ◌*◌, ◌≤◌, ◌^◌, ◌==◌, ℤ, pos, neg_ℤ, min, Bool, true, false, nat_le, nat_lt, if◌then◌else◌, List, [], ◌∷◌, length, Option, None, Some, Result, Err}
 use Rattle.gx_expr.specs.declared.digits.Digits.{Digits}
 use Rattle.gx_expr.specs.declared.exponent.Power.{Power}
-use Rattle.gx_expr.specs.declared.exponent.TheConstants.{MOST}
+use Rattle.gx_expr.specs.declared.exponent.TheConstants.{MAX_SIZE}
 use Rattle.gx_expr.specs.declared.fault.ExprFault.{ExprFault}
 use Rattle.gx_expr.specs.declared.fault.ExprFault.TheVariants.{TooWide}
 use Rattle.gx_expr.specs.Eval.{zeros_after, front_of}
-use Rattle.gx_expr.specs.Tree.{value_of_digits, exponent_at, signed_exponent, Read}
+use Rattle.gx_expr.specs.Token.{value_of_digits, exponent_at, signed_exponent, Read}
 use Rattle.std.specs.Char.{is_ascii_digit}
-use Rattle.gx_expr.specs.Worth.{Worth, ratio}
+use Rattle.gx_expr.specs.Quantity.{Quantity, ratio}
 use Rattle.std.specs.List.{list_all}
 use Rattle.std.specs.Option.{option_map}
 
 -- what is kept of digits that begin with no zero
-pub record IsSeen (digits : List ℕ) (d : Digits) : Type 0 where
+pub record IsDigitsOf (digits : List ℕ) (d : Digits) : Type 0 where
   pub zeros : d.zeros ≡ zeros_after digits
   pub count : d.count + d.zeros ≡ length digits
   pub none : d.count ≡ 0 → digits ≡ []
   pub value : d.count ≤ 18 → d.value ≡ value_of_digits (front_of digits)
 
 -- n * 10^k and n / 10^k, for k up to 18
-abbrev pub raised_to : ℕ → ℕ → Result Worth ExprFault
+abbrev pub raised_to : ℕ → ℕ → Result Quantity ExprFault
 raised_to n k = if nat_lt 18 k then Err TooWide else ratio (pos (n * 10 ^ k)) (pos 1) false false
 
-abbrev pub lowered_to : ℕ → ℕ → Result Worth ExprFault
+abbrev pub lowered_to : ℕ → ℕ → Result Quantity ExprFault
 lowered_to n k = if nat_lt 18 k then Err TooWide else ratio (pos n) (pos (10 ^ k)) false false
 
 -- n * 10^(up - down)
-abbrev pub placed : ℕ → ℕ → ℕ → Result Worth ExprFault
+abbrev pub placed : ℕ → ℕ → ℕ → Result Quantity ExprFault
 placed n up down = if nat_le down up then raised_to n (up - down) else lowered_to n (down - up)
 
-abbrev pub worth_seen : Digits → ℕ → ℕ → Result Worth ExprFault
-worth_seen d up down =
+abbrev pub value_kept : Digits → ℕ → ℕ → Result Quantity ExprFault
+value_kept d up down =
     if d.count == 0 then ratio (pos 0) (pos 1) false false
     else if nat_lt 18 d.count then Err TooWide
     else placed d.value (up + d.zeros) down
@@ -45,11 +45,11 @@ abbrev pub HasMark : List ℕ → List ℕ → Bool → Type 0
 HasMark old new true = exponent_at old ≡ signed_exponent old new
 HasMark old new false = exponent_at old ≡ record { what = pos 0; rest = old }
 
--- an exponent, whose magnitude is held up to MOST
+-- an exponent, whose magnitude is held up to MAX_SIZE
 pub record IsPower (read : Read ℤ) (power : Power) (new : List ℕ) : Type 0 where
   pub magnitude : ℕ
   pub what : read.what ≡ power_of power.negative magnitude
-  pub size : power.size ≡ min MOST magnitude
+  pub size : power.size ≡ min MAX_SIZE magnitude
   pub rest : new ≡ read.rest
 
 -- the value of 1 to 9 digits

@@ -1,6 +1,6 @@
 use Rattle.std.proofs.Common.{◌≡◌, true, take}
 use Rattle.std.specs.List.{list_all}
-use Rattle.gx_expr.specs.Tree.{value_of_digits}
+use Rattle.gx_expr.specs.Token.{value_of_digits}
 use Rattle.std.specs.Char.{is_ascii_digit}
 use Rattle.gx_expr.proofs.plain.few_digits.Given as goal
 

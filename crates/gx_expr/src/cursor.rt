@@ -1,6 +1,6 @@
 ghost use Rattle.std.specs.Prelude.{◌≡◌, ◌≤◌, length};
 ghost use Rattle.std.specs.List.{prefix_len};
-ghost use Rattle.gx_expr.specs.Tree.{is_name_byte, run_of, begins_decimal};
+ghost use Rattle.gx_expr.specs.Token.{is_name_byte, run_of, begins_decimal};
 ghost use Rattle.std.specs.Char.{is_ascii_digit, is_ascii_alphabetic};
 ghost use Rattle.gx_expr.specs.Descent.{test_of, Takes};
 
@@ -28,11 +28,11 @@ impl Class {
 
 // The bytes of a word that are left to read.
 #[derive(Drop)]
-pub struct Text<'a> {
+pub struct Cursor<'a> {
     left: &'a [u8],
 }
 
-impl<'a> Model for Text<'a> {
+impl<'a> Model for Cursor<'a> {
     ghost use Rattle.std.specs.Prelude.{ℕ, List};
 
     ghost Value = { List ℕ };
@@ -40,14 +40,14 @@ impl<'a> Model for Text<'a> {
     ghost view = { λ t. t.left.now };
 }
 
-impl<'a> Text<'a> {
+impl<'a> Cursor<'a> {
     ghost use Rattle.std.specs.Prelude.{◌↔◌, [], IsTrue, EachIndex, slice_index};
 
     // The whole word.
-    pub fn new(left: &'a [u8]) -> Text<'a>
+    pub fn new(left: &'a [u8]) -> Cursor<'a>
         ensures { result ≡ left.now }
     {
-        Text { left }
+        Cursor { left }
     }
 
     // The bytes, for a reading that may be undone.
@@ -81,14 +81,15 @@ impl<'a> Text<'a> {
         ensures { result ≡ begins_decimal self.now }
     {
         match self.left {
-            [first, second, ..] => first.is_ascii_digit() || (*first == b'.' && second.is_ascii_digit()),
+            [first, second, ..] => first.is_ascii_digit()
+                || (*first == b'.' && second.is_ascii_digit()),
             [first] => first.is_ascii_digit(),
             [] => false,
         }
     }
 
     // The longest run of such bytes, which is passed.
-    #[tactic(auto, using(crate::proofs::Parts::run_all))]
+    #[tactic(auto, using(crate::proofs::Tokens::run_all))]
     pub fn run(&mut self, class: Class) -> &'a [u8]
         ensures what { result.now ≡ (run_of (test_of class) self.old).what }
         ensures rest { self.new ≡ (run_of (test_of class) self.old).rest }
