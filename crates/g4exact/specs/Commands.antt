@@ -3,21 +3,21 @@ use Rattle.std.specs.Prelude.{ℕ, pos, List, [], ◌∷◌, take, drop, Option,
 use Rattle.std.specs.Str.{bytes_eq}
 use Rattle.gx_fraction.specs.Fraction.{Fraction}
 use Rattle.gx_expr.specs.declared.fault.ExprFault.{ExprFault}
-use Rattle.gx_expr.specs.Worth.{Worth}
+use Rattle.gx_expr.specs.Quantity.{Quantity}
 use Rattle.gx_expr.specs.Convert.{is_grid}
-use Rattle.gx_expr.specs.Eval.{evaluated}
+use Rattle.gx_expr.specs.Eval.{value_of_word}
 use Rattle.g4exact.specs.declared.command.Options.{Options}
 use Rattle.g4exact.specs.declared.command.Command.{Command}
 use Rattle.g4exact.specs.declared.command.Command.TheVariants.{Trace}
 
 -- the step of a grid that an expression gives: above 0, and no angle
-abbrev pub step_of : Result Worth ExprFault → Option Fraction
+abbrev pub step_of : Result Quantity ExprFault → Option Fraction
 step_of (Err fault) = None
 step_of (Ok worth) = if is_grid worth then Some worth.number else None
 
 -- `--grid=EXPR`, where EXPR has no parameters
 abbrev pub grid_of : List ℕ → Option Fraction
-grid_of word = if bytes_eq (take 7 word) (codes "--grid=") then step_of (evaluated [] (drop 7 word)) else None
+grid_of word = if bytes_eq (take 7 word) (codes "--grid=") then step_of (value_of_word [] (drop 7 word)) else None
 
 -- the options of a command, each at most once
 abbrev pub no_options : Options

@@ -1,5 +1,5 @@
 ghost use Rattle.std.specs.Prelude.{◌≡◌, [], map, string_bytes};
-ghost use Rattle.gx_expr.specs.Eval.{evaluated};
+ghost use Rattle.gx_expr.specs.Eval.{value_of_word};
 ghost use Rattle.g4exact.specs.Commands.{step_of, grid_of, with_grid, options_from, no_options, command_of};
 
 use gx_expr::{Grid, Params, eval};
@@ -70,7 +70,7 @@ fn grid_from(alloc: Global, word: &[u8]) -> Option<Grid>
 }
 
 fn step(alloc: Global, word: &[u8]) -> Option<Grid>
-    ensures { result ≡ step_of (evaluated [] word.now) }
+    ensures { result ≡ step_of (value_of_word [] word.now) }
 {
     match eval(&Params::new(alloc), word) {
         Ok(value) => Grid::new(&value),

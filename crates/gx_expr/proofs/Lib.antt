@@ -1,12 +1,13 @@
 pub mod Casts
 pub mod Derivations
 pub mod Descent
+pub mod DigitValues
 pub mod Leaves
 pub mod Names
 pub mod Numbers
-pub mod Parts
+pub mod Tokens
 pub mod PlainWords
 pub mod Quotient
-pub mod Seen
+pub mod KeptDigits
 pub mod Trees
 mod KnownValues

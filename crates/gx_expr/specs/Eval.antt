@@ -1,13 +1,14 @@
--- What expressions are worth, or their first fault in evaluation: operands before their operator, left before right.
+-- The values of expressions, or their first fault in evaluation: operands before their operator, left before right.
 -- Units: the documentation of Geant4's ASCII text geometry format; which ones, and every width, are this project's own.
-use Rattle.std.specs.Prelude.{ℕ, suc, zero, ◌-◌, ◌*◌, ◌^◌, ℤ, pos, negsuc, ◌+ℤ◌, ◌==◌, ◌||◌, nat_lt, true, false, if◌then◌else◌, codes, List, [], ◌∷◌, length, take, drop, reverse, Option, None, Some, Result, Ok, Err}
-use Rattle.std.specs.List.{prefix_len}
+use Rattle.std.specs.Prelude.{ℕ, suc, zero, ◌-◌, ◌*◌, ◌^◌, ℤ, pos, negsuc, ◌+ℤ◌, ◌==◌, ◌||◌, nat_lt, true, false, if◌then◌else◌, codes, List, [], ◌∷◌, length, take, drop, unsigned_abs, Option, None, Some, Result, Ok, Err}
+use Rattle.std.specs.List.{prefix_len, suffix_len}
 use Rattle.gx_table.specs.Table.{Row, number_in}
 use Rattle.gx_expr.specs.declared.fault.ExprFault.{ExprFault}
 use Rattle.gx_expr.specs.declared.fault.ExprFault.TheVariants.{Syntax, UnknownParam, UnknownUnit, TooWide}
-use Rattle.gx_expr.specs.Param.{Param, value_of}
-use Rattle.gx_expr.specs.Tree.{Decimal, value_of_digits, Tree, number, name, unit, opposite, sum, difference, product, quotient, tree_of}
-use Rattle.gx_expr.specs.Worth.{Worth, ratio, sum_of, difference_of, product_of, quotient_of, opposite_of}
+use Rattle.gx_expr.specs.Param.{Param, value_of_name}
+use Rattle.gx_expr.specs.Token.{Decimal, value_of_digits, Leaf, number, name, unit}
+use Rattle.gx_expr.specs.Tree.{Tree, leaf, opposite, sum, difference, product, quotient, tree_of}
+use Rattle.gx_expr.specs.Quantity.{Quantity, ratio, sum_of, difference_of, product_of, quotient_of, opposite_of}
 
 -- ---- numbers
 
@@ -15,26 +16,30 @@ abbrev pub zeros_before : List ℕ → ℕ
 zeros_before digits = prefix_len (λ b. b == 48) digits
 
 abbrev pub zeros_after : List ℕ → ℕ
-zeros_after digits = zeros_before (reverse digits)
+zeros_after digits = suffix_len (λ b. b == 48) digits
 
--- the digits without the zeros before the first other digit and after the last
-abbrev pub inner_digits : List ℕ → List ℕ
-inner_digits digits = let shorter = drop (zeros_before digits) digits in take (length shorter - zeros_after shorter) shorter
+-- the digits without the zeros in front
+abbrev pub trimmed : List ℕ → List ℕ
+trimmed digits = drop (zeros_before digits) digits
+
+-- the digits without the zeros at the end
+abbrev pub front_of : List ℕ → List ℕ
+front_of digits = take (length digits - zeros_after digits) digits
 
 -- n * 10^k
-abbrev pub shifted : ℕ → ℤ → Result Worth ExprFault
+abbrev pub shifted : ℕ → ℤ → Result Quantity ExprFault
 shifted n (pos k) = ratio (pos (n * 10 ^ k)) (pos 1) false false
 shifted n (negsuc k) = ratio (pos n) (pos (10 ^ suc k)) false false
 
--- no more than 18 digits, and no power of ten below -18
-abbrev pub if_short : List ℕ → ℤ → Result Worth ExprFault
-if_short inner (pos k) = if nat_lt 18 (length inner) then Err TooWide else shifted (value_of_digits inner) (pos k)
-if_short inner (negsuc k) = if nat_lt 18 (length inner) || nat_lt 18 (suc k) then Err TooWide else shifted (value_of_digits inner) (negsuc k)
+-- at most 18 digits, and a power of ten from -18 to 18
+abbrev pub if_short : List ℕ → ℤ → Result Quantity ExprFault
+if_short digits k = if nat_lt 18 (length digits) || nat_lt 18 (unsigned_abs k) then Err TooWide else shifted (value_of_digits digits) k
 
--- a number that isn't 0 is its inner digits times a power of ten
-abbrev pub worth_of_decimal : Decimal → Result Worth ExprFault
-worth_of_decimal d =
-    if length (inner_digits d.digits) == 0 then ratio (pos 0) (pos 1) false false else if_short (inner_digits d.digits) (d.scale +ℤ pos (zeros_after d.digits))
+-- a number that isn't 0 is its digits without the zeros at both ends, times a power of ten
+abbrev pub value_of_decimal : Decimal → Result Quantity ExprFault
+value_of_decimal d =
+    let inner = front_of (trimmed d.digits) in
+    if length inner == 0 then ratio (pos 0) (pos 1) false false else if_short inner (d.scale +ℤ pos (zeros_after (trimmed d.digits)))
 
 -- ---- units
 
@@ -47,11 +52,11 @@ units =
     ∷ row (codes "km") 3 ∷ row (codes "kilometer") 3 ∷ row (codes "um") 4 ∷ row (codes "micrometer") 4 ∷ row (codes "nm") 5 ∷ row (codes "nanometer") 5
     ∷ row (codes "angstrom") 6 ∷ row (codes "deg") 7 ∷ row (codes "degree") 7 ∷ []
 
-abbrev pub length_of : ℤ → ℕ → Worth
+abbrev pub length_of : ℤ → ℕ → Quantity
 length_of num den = record { number = record { num = num; den = den }; length = true; angle = false }
 
 -- a length in millimetres, or an angle in degrees
-abbrev pub unit_of : ℕ → Worth
+abbrev pub unit_of : ℕ → Quantity
 unit_of zero = length_of (pos 1) 1
 unit_of (suc zero) = length_of (pos 10) 1
 unit_of (suc (suc zero)) = length_of (pos 1000) 1
@@ -67,29 +72,32 @@ found fault f (Some a) = Ok (f a)
 
 -- ---- trees
 
-abbrev pub of_one : (Worth → Worth) → Result Worth ExprFault → Result Worth ExprFault
+abbrev pub of_one : (Quantity → Quantity) → Result Quantity ExprFault → Result Quantity ExprFault
 of_one operation (Err fault) = Err fault
 of_one operation (Ok a) = Ok (operation a)
 
-abbrev pub of_two : (Worth → Worth → Result Worth ExprFault) → Result Worth ExprFault → Result Worth ExprFault → Result Worth ExprFault
+abbrev pub of_two : (Quantity → Quantity → Result Quantity ExprFault) → Result Quantity ExprFault → Result Quantity ExprFault → Result Quantity ExprFault
 of_two operation (Err fault) b = Err fault
 of_two operation (Ok a) (Err fault) = Err fault
 of_two operation (Ok a) (Ok b) = operation a b
 
-abbrev pub worth_of : List Param → Tree → Result Worth ExprFault
-worth_of params (number d) = worth_of_decimal d
-worth_of params (name n) = found UnknownParam (λ w. w) (value_of params n)
-worth_of params (unit u) = found UnknownUnit unit_of (number_in units u)
-worth_of params (opposite a) = of_one opposite_of (worth_of params a)
-worth_of params (sum a b) = of_two sum_of (worth_of params a) (worth_of params b)
-worth_of params (difference a b) = of_two difference_of (worth_of params a) (worth_of params b)
-worth_of params (product a b) = of_two product_of (worth_of params a) (worth_of params b)
-worth_of params (quotient a b) = of_two quotient_of (worth_of params a) (worth_of params b)
+abbrev pub value_of_leaf : List Param → Leaf → Result Quantity ExprFault
+value_of_leaf params (number d) = value_of_decimal d
+value_of_leaf params (name n) = found UnknownParam (λ w. w) (value_of_name params n)
+value_of_leaf params (unit u) = found UnknownUnit unit_of (number_in units u)
 
-abbrev pub worth_of_tree : List Param → Option Tree → Result Worth ExprFault
-worth_of_tree params None = Err Syntax
-worth_of_tree params (Some tree) = worth_of params tree
+abbrev pub value_of : List Param → Tree → Result Quantity ExprFault
+value_of params (leaf l) = value_of_leaf params l
+value_of params (opposite a) = of_one opposite_of (value_of params a)
+value_of params (sum a b) = of_two sum_of (value_of params a) (value_of params b)
+value_of params (difference a b) = of_two difference_of (value_of params a) (value_of params b)
+value_of params (product a b) = of_two product_of (value_of params a) (value_of params b)
+value_of params (quotient a b) = of_two quotient_of (value_of params a) (value_of params b)
 
--- what a word is worth: no tree is a fault before all others
-unfoldable pub evaluated : List Param → List ℕ → Result Worth ExprFault
-evaluated params word = worth_of_tree params (tree_of word)
+abbrev pub value_of_tree : List Param → Option Tree → Result Quantity ExprFault
+value_of_tree params None = Err Syntax
+value_of_tree params (Some tree) = value_of params tree
+
+-- the value of a word: no tree is a fault before all others
+unfoldable pub value_of_word : List Param → List ℕ → Result Quantity ExprFault
+value_of_word params word = value_of_tree params (tree_of word)

@@ -6,5 +6,6 @@ pub mod Grammar
 pub mod Narrow
 pub mod Laws
 pub mod Param
+pub mod Token
 pub mod Tree
-pub mod Worth
+pub mod Quantity

@@ -1,15 +1,16 @@
 ghost use Rattle.std.specs.Prelude.{◌≡◌, EachIndex, slice_index, IsTrue};
-ghost use Rattle.gx_expr.specs.Tree.{is_digit, fraction_at, decimal_at};
-ghost use Rattle.gx_expr.specs.Eval.{worth_of_decimal};
+ghost use Rattle.gx_expr.specs.Token.{fraction_at, decimal_at};
+ghost use Rattle.std.specs.Char.{is_ascii_digit};
+ghost use Rattle.gx_expr.specs.Eval.{value_of_decimal};
 
+use crate::cursor::{Class, Cursor};
 use crate::digits::Digits;
 use crate::exponent::exponent;
-use crate::text::{Class, Text};
 use crate::{ExprFault, Value};
 
 // The number that is next.
-pub fn number(text: &mut Text) -> Result<Value, ExprFault>
-    ensures value { result ≡ worth_of_decimal (decimal_at text.old).what }
+pub fn number(text: &mut Cursor) -> Result<Value, ExprFault>
+    ensures value { result ≡ value_of_decimal (decimal_at text.old).what }
     ensures rest { text.new ≡ (decimal_at text.old).rest }
 {
     let whole = text.run(Class::Digit);
@@ -18,17 +19,17 @@ pub fn number(text: &mut Text) -> Result<Value, ExprFault>
     let digits = Digits::of(whole, fraction);
     let places = fraction.len() as u128;
     if exponent.negative {
-        digits.worth(0, places + exponent.size)
+        digits.value_at(0, places + exponent.size)
     } else {
-        digits.worth(exponent.size, places)
+        digits.value_at(exponent.size, places)
     }
 }
 
 // The digits after a point, if there is one.
-fn fraction<'a>(text: &mut Text<'a>) -> &'a [u8]
+fn fraction<'a>(text: &mut Cursor<'a>) -> &'a [u8]
     ensures what { result.now ≡ (fraction_at text.old).what }
     ensures rest { text.new ≡ (fraction_at text.old).rest }
-    ensures digits { EachIndex result.now (λ k. IsTrue (is_digit (slice_index result.now k))) }
+    ensures digits { EachIndex result.now (λ k. IsTrue (is_ascii_digit (slice_index result.now k))) }
 {
     if text.take(b'.') {
         text.run(Class::Digit)

@@ -15,14 +15,15 @@ pub struct Digits {
 
 impl Digits {
     ghost use Rattle.std.specs.Prelude.{ℕ, List, [], ◌∷◌, ◌++◌, ◌≡◌, ◌+◌, ◌-◌, EachIndex, slice_index, IsTrue};
-    ghost use Rattle.gx_expr.specs.Tree.{is_digit};
-    ghost use Rattle.gx_expr.specs.Digits.{shorter, IsSeen, worth_seen};
+    ghost use Rattle.std.specs.Char.{is_ascii_digit};
+    ghost use Rattle.gx_expr.specs.Digits.{IsDigitsOf, value_kept};
+    ghost use Rattle.gx_expr.specs.Eval.{trimmed};
 
     // The digits before a point and those after it.
     pub fn of(whole: &[u8], fraction: &[u8]) -> Digits
-        requires whole { EachIndex whole.now (λ k. IsTrue (is_digit (slice_index whole.now k))) }
-        requires fraction { EachIndex fraction.now (λ k. IsTrue (is_digit (slice_index fraction.now k))) }
-        ensures { IsSeen (shorter (whole.now ++ fraction.now)) result }
+        requires whole { EachIndex whole.now (λ k. IsTrue (is_ascii_digit (slice_index whole.now k))) }
+        requires fraction { EachIndex fraction.now (λ k. IsTrue (is_ascii_digit (slice_index fraction.now k))) }
+        ensures { IsDigitsOf (trimmed (whole.now ++ fraction.now)) result }
     {
         let mut digits = Digits {
             value: 0,
@@ -37,9 +38,9 @@ impl Digits {
 
     // One more digit at the end.
     fn push(&mut self, digit: u8)
-        requires digit { IsTrue (is_digit digit) }
+        requires digit { IsTrue (is_ascii_digit digit) }
         requires room { self.old.count + self.old.zeros < 2 ^ 64 - 1 }
-        ensures { (digits : List ℕ) → IsSeen (shorter digits) self.old → IsSeen (shorter (digits ++ digit ∷ [])) self.new }
+        ensures { (digits : List ℕ) → IsDigitsOf (trimmed digits) self.old → IsDigitsOf (trimmed (digits ++ digit ∷ [])) self.new }
     {
         if digit == 48 {
             if self.count > 0 {
@@ -55,10 +56,10 @@ impl Digits {
         };
     }
 
-    // What the digits are worth, times 10^(up - down).
-    pub fn worth(&self, up: u128, down: u128) -> Result<Value, ExprFault>
+    // The value of the digits, times 10^(up - down).
+    pub fn value_at(&self, up: u128, down: u128) -> Result<Value, ExprFault>
         requires { up < 2 ^ 127 }
-        ensures { result ≡ worth_seen self.now up down }
+        ensures { result ≡ value_kept self.now up down }
     {
         if self.count == 0 {
             return Value::new(0, 1, false, false);

@@ -1,10 +1,11 @@
 ghost use Rattle.std.specs.Prelude.{◌≡◌, List, ℕ, min, pos, length, EachIndex, slice_index, IsTrue};
-ghost use Rattle.gx_expr.specs.Tree.{exponent_at, signed_exponent, exponent_from, value_of_digits, is_digit, run_of};
+ghost use Rattle.gx_expr.specs.Token.{exponent_at, signed_exponent, exponent_from, value_of_digits, run_of};
+ghost use Rattle.std.specs.Char.{is_ascii_digit};
 ghost use Rattle.gx_expr.specs.Digits.{IsPower, power_of, HasMark};
 
-use crate::text::{Class, Text};
+use crate::cursor::{Class, Cursor};
 
-// A power of ten: its sign, and its magnitude up to `MOST`.
+// A power of ten: its sign, and its magnitude up to `MAX_SIZE`.
 #[derive(Clone, Copy)]
 pub struct Power {
     pub negative: bool,
@@ -12,13 +13,13 @@ pub struct Power {
 }
 
 // The greatest magnitude that is told from others, 2^100: the length of a text is far below.
-pub const MOST: u128 = 1267650600228229401496703205376;
+pub const MAX_SIZE: u128 = 1267650600228229401496703205376;
 
 // The exponent that is next, if there is one.
-pub fn exponent(text: &mut Text) -> Power
+pub fn exponent(text: &mut Cursor) -> Power
     ensures { IsPower (exponent_at text.old) result text.new }
 {
-    let mut ahead = Text::new(text.left());
+    let mut ahead = Cursor::new(text.left());
     let none = Power {
         negative: false,
         size: 0,
@@ -39,15 +40,15 @@ pub fn exponent(text: &mut Text) -> Power
 }
 
 // Passes `e` or `E`.
-fn mark(text: &mut Text) -> bool
+fn mark(text: &mut Cursor) -> bool
     ensures { HasMark text.old text.new result }
 {
     text.take(b'e') || text.take(b'E')
 }
 
 // Passes the sign, if there is one: whether it is `-`.
-fn minus(text: &mut Text) -> bool
-    ensures { (s : List ℕ) → signed_exponent s text.old ≡ exponent_from (power_of result) s (run_of is_digit text.new) }
+fn minus(text: &mut Cursor) -> bool
+    ensures { (s : List ℕ) → signed_exponent s text.old ≡ exponent_from (power_of result) s (run_of is_ascii_digit text.new) }
 {
     if text.take(b'-') {
         return true;
@@ -56,14 +57,14 @@ fn minus(text: &mut Text) -> bool
     false
 }
 
-// The magnitude that digits make, up to `MOST`.
+// The magnitude that digits make, up to `MAX_SIZE`.
 fn size_of(digits: &[u8]) -> u128
-    requires { EachIndex digits.now (λ k. IsTrue (is_digit (slice_index digits.now k))) }
-    ensures { result ≡ min MOST (value_of_digits digits.now) }
+    requires { EachIndex digits.now (λ k. IsTrue (is_ascii_digit (slice_index digits.now k))) }
+    ensures { result ≡ min MAX_SIZE (value_of_digits digits.now) }
 {
     let mut size: u128 = 0;
     for digit in digits {
-        size = MOST.min(10 * size + (digit - 48) as u128);
+        size = MAX_SIZE.min(10 * size + (digit - 48) as u128);
     }
     size
 }

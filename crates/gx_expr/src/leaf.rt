@@ -1,16 +1,16 @@
 ghost use Rattle.std.specs.Prelude.{ℕ, ◌≡◌, false};
 ghost use Rattle.gx_expr.specs.Eval.{found};
-ghost use Rattle.gx_expr.specs.Param.{value_of};
+ghost use Rattle.gx_expr.specs.Param.{value_of_name};
 ghost use Rattle.gx_expr.specs.Descent.{Reads, anywhere, begins, IsSumEnd};
 
+use crate::cursor::{Class, Cursor};
 use crate::decimal::number;
-use crate::text::{Class, Text};
 use crate::unit::unit;
 use crate::{ExprFault, Params, Value};
 
 // A number, a name or a unit.
 #[tactic(auto, using(crate::proofs::Leaves::name_read, crate::proofs::Leaves::name_none, crate::proofs::Leaves::number_read, crate::proofs::Leaves::unit_none))]
-pub fn leaf(params: &Params, text: &mut Text) -> Option<Result<Value, ExprFault>>
+pub fn leaf(params: &Params, text: &mut Cursor) -> Option<Result<Value, ExprFault>>
     requires end { IsSumEnd text.old }
     requires opening { begins 40 text.old ≡ false }
     ensures { (open_count : ℕ) → Reads anywhere open_count params.now text.old text.new result }
@@ -34,7 +34,7 @@ pub fn leaf(params: &Params, text: &mut Text) -> Option<Result<Value, ExprFault>
 
 // The value of a parameter.
 fn named(params: &Params, name: &[u8]) -> Result<Value, ExprFault>
-    ensures { result ≡ found ExprFault.UnknownParam (λ w. w) (value_of params.now name.now) }
+    ensures { result ≡ found ExprFault.UnknownParam (λ w. w) (value_of_name params.now name.now) }
 {
     params.get(name).ok_or(ExprFault::UnknownParam)
 }

@@ -2,6 +2,7 @@
 #![tactic(auto)]
 
 mod convert;
+mod cursor;
 mod decimal;
 mod digits;
 mod evaluate;
@@ -15,7 +16,6 @@ mod params;
 mod plain;
 mod product;
 mod shift;
-mod text;
 mod unit;
 mod value;
 

@@ -2,7 +2,7 @@ ghost use Rattle.std.specs.Prelude.{◌≡◌};
 ghost use Rattle.gx_expr.specs.Eval.{of_two};
 ghost use Rattle.gx_expr.specs.Descent.{operation_of, IsSumSign, IsProductSign, IsSumEnd, IsSigned, flipped, signed};
 
-use crate::text::Text;
+use crate::cursor::Cursor;
 use crate::{ExprFault, Value};
 
 // What stands between two operands.
@@ -15,7 +15,7 @@ pub enum Operator {
 }
 
 // The `+` or `-` that is next, which is passed.
-pub fn sum_sign(text: &mut Text) -> Option<Operator>
+pub fn sum_sign(text: &mut Cursor) -> Option<Operator>
     ensures { IsSumSign text.old text.new result }
 {
     if text.take(b'+') {
@@ -28,7 +28,7 @@ pub fn sum_sign(text: &mut Text) -> Option<Operator>
 }
 
 // The `*` or `/` that is next, which is passed.
-pub fn product_sign(text: &mut Text) -> Option<Operator>
+pub fn product_sign(text: &mut Cursor) -> Option<Operator>
     ensures { IsProductSign text.old text.new result }
 {
     if text.take(b'*') {
@@ -42,7 +42,7 @@ pub fn product_sign(text: &mut Text) -> Option<Operator>
 
 // Passes the signs before a primary: whether the minus signs among them are odd in number.
 #[tactic(auto, using(crate::proofs::Descent::signs_none, crate::proofs::Descent::signs_more))]
-pub fn signs(text: &mut Text) -> bool
+pub fn signs(text: &mut Cursor) -> bool
     ensures signs { IsSigned text.old text.new result }
     ensures end { IsSumEnd text.new }
 {

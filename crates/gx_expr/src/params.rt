@@ -22,7 +22,7 @@ impl Model for Params {
 }
 
 impl Params {
-    ghost use Rattle.gx_expr.specs.Param.{value_of, Defines};
+    ghost use Rattle.gx_expr.specs.Param.{value_of_name, Defines};
 
     /// No parameters. Takes no memory.
     pub fn new(alloc: Global) -> Params
@@ -52,7 +52,7 @@ impl Params {
 
     /// The value of a name: None where it was given none.
     pub fn get(&self, name: &[u8]) -> Option<Value>
-        ensures { result ≡ value_of self.now name.now }
+        ensures { result ≡ value_of_name self.now name.now }
     {
         self.values.get(name).copied()
     }

@@ -1,5 +1,5 @@
 ghost use Rattle.std.specs.Prelude.{◌≡◌, ◌<◌, ◌≤◌, ◌^◌, ◌*◌, ◌+◌, ◌-◌, IsTrue};
-ghost use Rattle.gx_expr.specs.Tree.{is_digit};
+ghost use Rattle.std.specs.Char.{is_ascii_digit};
 ghost use Rattle.gx_expr.specs.Digits.{raised_to, lowered_to};
 
 use crate::{ExprFault, Value};
@@ -33,7 +33,7 @@ pub fn longer(value: u64, count: usize, more: usize, digit: u8) -> u64
     requires narrow { count ≤ 18 → value < 10 ^ count }
     requires more { 0 < more }
     requires room { count + more < 2 ^ 64 }
-    requires digit { IsTrue (is_digit digit) }
+    requires digit { IsTrue (is_ascii_digit digit) }
     ensures value { count + more ≤ 18 → result ≡ value * 10 ^ more + (digit - 48) }
     ensures narrow { count + more ≤ 18 → result < 10 ^ (count + more) }
 {

@@ -6,8 +6,8 @@ use crate::product::times;
 use gx_fraction::Frac;
 use std::marker::Model;
 
-/// What an expression is worth: a fraction, with a mark where it is a length and one where it is an angle. A length
-/// is in millimetres, an angle in degrees. Contracts see a `Worth`.
+/// The value of an expression: a fraction, with a mark where it is a length and one where it is an angle. A length
+/// is in millimetres, an angle in degrees. Contracts see a `Quantity`.
 #[derive(Clone, Copy, Debug, PartialEq, Eq)]
 pub struct Value {
     number: Frac,
@@ -17,9 +17,9 @@ pub struct Value {
 
 impl Model for Value {
     ghost use Rattle.gx_expr.specs.Narrow.{IsNarrow};
-    ghost use Rattle.gx_expr.specs.Worth.{Worth};
+    ghost use Rattle.gx_expr.specs.Quantity.{Quantity};
 
-    ghost Value = { Worth };
+    ghost Value = { Quantity };
 
     ghost view = { λ v. record { number = v.number; length = v.length; angle = v.angle } };
 
@@ -29,11 +29,11 @@ impl Model for Value {
 }
 
 // The greatest numerator and denominator, 2^62.
-const WIDEST: u128 = 4611686018427387904;
+const MAX_WIDTH: u128 = 4611686018427387904;
 
 #[tactic(auto, using(crate::proofs::Casts::small))]
 impl Value {
-    ghost use Rattle.gx_expr.specs.Worth.{ratio, ratio_of, reduced as reduced_to, sum_of, difference_of, product_of, quotient_of, opposite_of};
+    ghost use Rattle.gx_expr.specs.Quantity.{ratio, ratio_of, reduced as reduced_to, sum_of, difference_of, product_of, quotient_of, opposite_of};
 
     /// num/den with these marks. `DivideByZero` where `den` is 0, else `TooWide` where in lowest terms the numerator's
     /// magnitude or the denominator is above 2^62.
@@ -46,10 +46,10 @@ impl Value {
             return Err(ExprFault::DivideByZero);
         }
         let number = Value::reduced(num, den);
-        if number.num().unsigned_abs() > WIDEST {
+        if number.num().unsigned_abs() > MAX_WIDTH {
             return Err(ExprFault::TooWide);
         }
-        if number.den().unsigned_abs() > WIDEST {
+        if number.den().unsigned_abs() > MAX_WIDTH {
             return Err(ExprFault::TooWide);
         }
         Ok(Value {

@@ -13,10 +13,10 @@ use Rattle.gx_expr.specs.declared.fault.ExprFault.{ExprFault}
 use Rattle.gx_expr.specs.declared.fault.ExprFault.TheVariants.{Syntax, UnknownParam, UnknownUnit, DivideByZero, TooWide}
 use Rattle.gx_expr.specs.declared.fault.StepFault.{StepFault}
 use Rattle.gx_expr.specs.declared.fault.StepFault.TheVariants.{UnitKind, OffGrid, TooFar}
-use Rattle.gx_expr.specs.Worth.{Worth}
+use Rattle.gx_expr.specs.Quantity.{Quantity}
 use Rattle.gx_expr.specs.Param.{Param}
-use Rattle.gx_expr.specs.Tree.{is_name_byte}
-use Rattle.gx_expr.specs.Eval.{evaluated}
+use Rattle.gx_expr.specs.Token.{is_name_byte}
+use Rattle.gx_expr.specs.Eval.{value_of_word}
 use Rattle.gx_expr.specs.Convert.{steps}
 use Rattle.gx_reader.specs.declared.fault.WordFault.{WordFault}
 use Rattle.gx_reader.specs.declared.judge.Judge.{Judge}
@@ -47,7 +47,7 @@ is_param_name word = not (length word == 0) && nat_le (length word) 255 && list_
 abbrev pub nothing_if : Bool → Result Given FaultName
 nothing_if good = if good then Ok Nothing else Err NotBuilt
 
-abbrev pub as_value : Result Worth ExprFault → Result Given FaultName
+abbrev pub as_value : Result Quantity ExprFault → Result Given FaultName
 as_value (Err fault) = Err (name_of_expr fault)
 as_value (Ok worth) = Ok (Worthy worth)
 
@@ -56,7 +56,7 @@ as_number (Err fault) = Err (name_of_step fault)
 as_number (Ok n) = Ok n
 
 -- the steps of the grid that a word is
-abbrev pub steps_of : Fraction → Result Worth ExprFault → Result ℤ FaultName
+abbrev pub steps_of : Fraction → Result Quantity ExprFault → Result ℤ FaultName
 steps_of grid (Err fault) = Err (name_of_expr fault)
 steps_of grid (Ok worth) = as_number (steps worth grid)
 
@@ -96,9 +96,9 @@ abbrev pub verdict : List Param → Fraction → List Given → Judge → List �
 verdict params grid givens Name word = nothing_if (is_name_of word)
 verdict params grid givens ParamName word = nothing_if (is_param_name word)
 verdict params grid givens Kind word = as_kind (kind_of word)
-verdict params grid givens Expression word = as_value (evaluated params word)
-verdict params grid givens Steps word = as_steps (steps_of grid (evaluated params word))
-verdict params grid givens (Extent kind) word = as_extent kind givens (steps_of grid (evaluated params word))
+verdict params grid givens Expression word = as_value (value_of_word params word)
+verdict params grid givens Steps word = as_steps (steps_of grid (value_of_word params word))
+verdict params grid givens (Extent kind) word = as_extent kind givens (steps_of grid (value_of_word params word))
 
 -- ---- the words of a line
 

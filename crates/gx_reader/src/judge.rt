@@ -1,8 +1,8 @@
 ghost use Rattle.std.specs.Prelude.{◌≡◌, ◌≤◌, [], drop, length, IfOk, IfErr, unsigned_abs, All, Ok};
 ghost use Rattle.std.specs.List.{list_all};
 ghost use Rattle.gx_num.specs.declared.vector.TheConstants.{M};
-ghost use Rattle.gx_expr.specs.Eval.{evaluated};
-ghost use Rattle.gx_expr.specs.Tree.{is_name_byte};
+ghost use Rattle.gx_expr.specs.Eval.{value_of_word};
+ghost use Rattle.gx_expr.specs.Token.{is_name_byte};
 ghost use Rattle.gx_reader.specs.Judge.{name_of_expr, name_of_step, is_param_name as is_param_name_of, nothing_if, steps_of, number_in, values_in, unless_fault, as_value, as_steps, as_extent, kind_of, as_kind, at_word, verdict as verdict_of, judged_from};
 ghost use Rattle.gx_shapes.specs.Shape.{first_fault};
 ghost use Rattle.gx_reader.specs.Given.{Fits, IsCauseAt};
@@ -176,7 +176,7 @@ fn placed(word: u32, given: Result<Given, FaultName>) -> Result<Given, Refusal>
 
 impl Context<'_> {
     fn steps(&self, word: &[u8]) -> Result<i64, FaultName>
-        ensures value { result ≡ steps_of self.now.grid.now (evaluated self.now.params.now word.now) }
+        ensures value { result ≡ steps_of self.now.grid.now (value_of_word self.now.params.now word.now) }
         ensures within { IfOk result (λ n. unsigned_abs n ≤ unsigned_abs M) }
     {
         match eval(self.params, word) {
@@ -186,7 +186,7 @@ impl Context<'_> {
     }
 
     fn number(&self, word: &[u8]) -> Result<Given, FaultName>
-        ensures value { result ≡ as_steps (steps_of self.now.grid.now (evaluated self.now.params.now word.now)) }
+        ensures value { result ≡ as_steps (steps_of self.now.grid.now (value_of_word self.now.params.now word.now)) }
         ensures fits { IfOk result Fits }
     {
         match self.steps(word) {
@@ -196,7 +196,7 @@ impl Context<'_> {
     }
 
     fn value(&self, word: &[u8]) -> Result<Given, FaultName>
-        ensures value { result ≡ as_value (evaluated self.now.params.now word.now) }
+        ensures value { result ≡ as_value (value_of_word self.now.params.now word.now) }
         ensures fits { IfOk result Fits }
     {
         match eval(self.params, word) {
@@ -214,9 +214,9 @@ impl Context<'_> {
         word: &[u8],
     ) -> Result<Given, Refusal>
         requires { length givens.now ≤ 16 }
-        ensures ok { IfOk result (λ given. at_word place (as_extent kind givens.now (steps_of self.now.grid.now (evaluated self.now.params.now word.now))) ≡ Ok given) }
+        ensures ok { IfOk result (λ given. at_word place (as_extent kind givens.now (steps_of self.now.grid.now (value_of_word self.now.params.now word.now))) ≡ Ok given) }
         ensures fits { IfOk result Fits }
-        ensures err { IfErr result (IsCauseAt (at_word place (as_extent kind givens.now (steps_of self.now.grid.now (evaluated self.now.params.now word.now))))) }
+        ensures err { IfErr result (IsCauseAt (at_word place (as_extent kind givens.now (steps_of self.now.grid.now (value_of_word self.now.params.now word.now))))) }
     {
         match self.steps(word) {
             Ok(steps) => {

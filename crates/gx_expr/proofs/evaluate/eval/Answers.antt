@@ -1,4 +1,5 @@
-use Rattle.std.proofs.Common.{◌∙◌, sym, arith}
+use Rattle.std.proofs.Common.{◌≡◌, ◌∙◌, pos, false, sym, arith}
+use Rattle.gx_expr.specs.Quantity.{ratio}
 use Rattle.gx_expr.proofs.Casts.{small}
 use Rattle.gx_expr.proofs.PlainWords.{plain_word}
 use Rattle.gx_expr.proofs.evaluate.eval.Goals as goal
@@ -6,4 +7,5 @@ use Rattle.gx_expr.proofs.evaluate.eval.Goals as goal
 pub returns-in-Some : goal.returns-in-Some
 returns-in-Some c =
     let number = c.in-Some.number in
-    rw (small number (omega (arith, c.in-Some.ensures.bound))) at c.new.ensures ∙ plain_word c.args.params.now c.args.word.now number (sym c.in-Some.ensures.value)
+    let read : c.new.result ≡ ratio number (pos 1) false false = rw (small number (omega (arith, c.in-Some.ensures.bound))) at c.new.ensures in
+    read ∙ plain_word c.args.params.now c.args.word.now number (sym c.in-Some.ensures.value)

@@ -1,5 +1,5 @@
 use Rattle.std.proofs.Common.{arith}
-use Rattle.gx_expr.proofs.PlainWords.{few_more}
+use Rattle.gx_expr.proofs.DigitValues.{few_more}
 use Rattle.gx_expr.proofs.plain.few_digits.Goals as goal
 
 pub overflow_mul-value : goal.overflow_mul-value

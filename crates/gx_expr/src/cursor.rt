@@ -1,6 +1,7 @@
 ghost use Rattle.std.specs.Prelude.{◌≡◌, ◌≤◌, length};
 ghost use Rattle.std.specs.List.{prefix_len};
-ghost use Rattle.gx_expr.specs.Tree.{is_digit, is_letter, is_name_byte, run_of, begins_decimal};
+ghost use Rattle.gx_expr.specs.Token.{is_name_byte, run_of, begins_decimal};
+ghost use Rattle.std.specs.Char.{is_ascii_digit, is_ascii_alphabetic};
 ghost use Rattle.gx_expr.specs.Descent.{test_of, Takes};
 
 use std::marker::Model;
@@ -18,32 +19,20 @@ impl Class {
         ensures { result ≡ test_of self byte }
     {
         match self {
-            Class::Digit => digit(byte),
-            Class::Letter => letter(byte),
-            Class::NameByte => letter(byte) || digit(byte) || byte == b'_',
+            Class::Digit => byte.is_ascii_digit(),
+            Class::Letter => byte.is_ascii_alphabetic(),
+            Class::NameByte => byte.is_ascii_alphabetic() || byte.is_ascii_digit() || byte == b'_',
         }
     }
 }
 
-fn digit(byte: u8) -> bool
-    ensures { result ≡ is_digit byte }
-{
-    byte >= 48 && byte <= 57
-}
-
-fn letter(byte: u8) -> bool
-    ensures { result ≡ is_letter byte }
-{
-    (byte >= 65 && byte <= 90) || (byte >= 97 && byte <= 122)
-}
-
 // The bytes of a word that are left to read.
 #[derive(Drop)]
-pub struct Text<'a> {
+pub struct Cursor<'a> {
     left: &'a [u8],
 }
 
-impl<'a> Model for Text<'a> {
+impl<'a> Model for Cursor<'a> {
     ghost use Rattle.std.specs.Prelude.{ℕ, List};
 
     ghost Value = { List ℕ };
@@ -51,14 +40,14 @@ impl<'a> Model for Text<'a> {
     ghost view = { λ t. t.left.now };
 }
 
-impl<'a> Text<'a> {
+impl<'a> Cursor<'a> {
     ghost use Rattle.std.specs.Prelude.{◌↔◌, [], IsTrue, EachIndex, slice_index};
 
     // The whole word.
-    pub fn new(left: &'a [u8]) -> Text<'a>
+    pub fn new(left: &'a [u8]) -> Cursor<'a>
         ensures { result ≡ left.now }
     {
-        Text { left }
+        Cursor { left }
     }
 
     // The bytes, for a reading that may be undone.
@@ -92,14 +81,15 @@ impl<'a> Text<'a> {
         ensures { result ≡ begins_decimal self.now }
     {
         match self.left {
-            [first, second, ..] => digit(*first) || (*first == b'.' && digit(*second)),
-            [first] => digit(*first),
+            [first, second, ..] => first.is_ascii_digit()
+                || (*first == b'.' && second.is_ascii_digit()),
+            [first] => first.is_ascii_digit(),
             [] => false,
         }
     }
 
     // The longest run of such bytes, which is passed.
-    #[tactic(auto, using(crate::proofs::Parts::run_all))]
+    #[tactic(auto, using(crate::proofs::Tokens::run_all))]
     pub fn run(&mut self, class: Class) -> &'a [u8]
         ensures what { result.now ≡ (run_of (test_of class) self.old).what }
         ensures rest { self.new ≡ (run_of (test_of class) self.old).rest }

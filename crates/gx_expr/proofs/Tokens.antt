@@ -1,4 +1,4 @@
--- The parts of a text, one after the other.
+-- The tokens of a text, one after the other.
 use Rattle.std.proofs.Common.{◌≡◌, ℕ, zero, suc, ◌-◌, ◌==◌, ◌<◌, Bool, true, false, List, [], ◌∷◌, length, take, drop, get_or, Option, None, Some, refl, ap, ◌∙◌, arith}
 use Rattle.std.proofs.Common.{length-drop}
 use Rattle.std.specs.List.{prefix_len}
@@ -7,17 +7,18 @@ use Rattle.std.proofs.lemmas.List.{get_or-take}
 use Rattle.std.proofs.lemmas.List.Folds.{length-prefix_len}
 use Rattle.std.proofs.lemmas.List.Sums.{prefix_len_passes}
 use Rattle.std.specs.Prelude.{if◌then◌else◌}
-use Rattle.gx_expr.specs.Tree.{Tree, Part, leaf, plus, minus, times, over, opening, closing, Read, named, part_at, in_front, onto, parts_from, parts_of, is_name_byte, is_letter, run_of, name, unit, begins_decimal}
+use Rattle.gx_expr.specs.Token.{Leaf, Token, operand, plus, minus, times, over, opening, closing, Read, named, token_at, in_front, onto, tokens_from, tokens_of, is_name_byte, run_of, name, unit, begins_decimal}
+use Rattle.std.specs.Char.{is_ascii_alphabetic}
 
 pub run_all : (test : ℕ → Bool) (s : List ℕ) (k : ℕ) → k < length (take (prefix_len test s) s) → test (get_or (take (prefix_len test s) s) k 0) ≡ true
 run_all test s k h =
     let fewer : k < prefix_len test s = rw (length-prefix_len test s) at h in
     rw (get_or-take (prefix_len test s) s k 0 fewer) (prefix_len_passes test s k 0 fewer)
 
-parts_from-drop : (k : ℕ) (s : List ℕ) → parts_from k s ≡ parts_of (drop k s)
-parts_from-drop zero s = refl
-parts_from-drop (suc k) [] = refl
-parts_from-drop (suc k) (b ∷ s) = parts_from-drop k s
+tokens_from-drop : (k : ℕ) (s : List ℕ) → tokens_from k s ≡ tokens_of (drop k s)
+tokens_from-drop zero s = refl
+tokens_from-drop (suc k) [] = refl
+tokens_from-drop (suc k) (b ∷ s) = tokens_from-drop k s
 
 drop-back : (k : ℕ) (s : List ℕ) → drop (length s - length (drop k s)) s ≡ drop k s
 drop-back zero s = let e : length s - length s ≡ 0 = omega arith in rw e refl
@@ -26,18 +27,18 @@ drop-back (suc k) (b ∷ s) =
     let e : suc (length s) - length (drop k s) ≡ suc (length s - length (drop k s)) = omega (arith, length-drop k s) in
     rw e (drop-back k s)
 
--- a part and the parts after it
-pub parts_of-step : (b : ℕ) (s : List ℕ) (k : ℕ) (what : Part) → part_at (b ∷ s) ≡ Some (record { what = what; rest = drop k s }) → parts_of (b ∷ s) ≡ in_front what (parts_of (drop k s))
-parts_of-step b s k what e =
-    ap (λ o. onto o (λ rest. parts_from (length s - length rest) s)) e
-    ∙ ap (in_front what) (parts_from-drop (length s - length (drop k s)) s ∙ ap parts_of (drop-back k s))
+-- a token and the tokens after it
+pub tokens_of-step : (b : ℕ) (s : List ℕ) (k : ℕ) (what : Token) → token_at (b ∷ s) ≡ Some (record { what = what; rest = drop k s }) → tokens_of (b ∷ s) ≡ in_front what (tokens_of (drop k s))
+tokens_of-step b s k what e =
+    ap (λ o. onto o (λ rest. tokens_from (length s - length rest) s)) e
+    ∙ ap (in_front what) (tokens_from-drop (length s - length (drop k s)) s ∙ ap tokens_of (drop-back k s))
 
-pub parts_of-none : (b : ℕ) (s : List ℕ) → part_at (b ∷ s) ≡ None → parts_of (b ∷ s) ≡ None
-parts_of-none b s e = ap (λ o. onto o (λ rest. parts_from (length s - length rest) s)) e
+pub tokens_of-none : (b : ℕ) (s : List ℕ) → token_at (b ∷ s) ≡ None → tokens_of (b ∷ s) ≡ None
+tokens_of-none b s e = ap (λ o. onto o (λ rest. tokens_from (length s - length rest) s)) e
 
 -- the byte that an operator or a parenthesis is
-abbrev pub IsOf : ℕ → Part → Type 0
-IsOf b (leaf t) = Unit {0}
+abbrev pub IsOf : ℕ → Token → Type 0
+IsOf b (operand l) = Unit {0}
 IsOf b plus = b ≡ 43
 IsOf b minus = b ≡ 45
 IsOf b times = b ≡ 42
@@ -45,19 +46,19 @@ IsOf b over = b ≡ 47
 IsOf b opening = b ≡ 40
 IsOf b closing = b ≡ 41
 
-abbrev pub IsAt : ℕ → Option (Read Part) → Type 0
+abbrev pub IsAt : ℕ → Option (Read Token) → Type 0
 IsAt b None = Unit {0}
 IsAt b (Some read) = IsOf b read.what
 
-chosen : (c : Bool) (b : ℕ) (x y : Option (Read Part)) → (c ≡ true → IsAt b x) → IsAt b y → IsAt b (if c then x else y)
+chosen : (c : Bool) (b : ℕ) (x y : Option (Read Token)) → (c ≡ true → IsAt b x) → IsAt b y → IsAt b (if c then x else y)
 chosen true b x y h k = h refl
 chosen false b x y h k = k
 
-named-IsAt : (b : ℕ) (tree : List ℕ → Tree) (run : Read (List ℕ)) → IsAt b (named tree run)
-named-IsAt b tree run = chosen (length run.what == 0) b None (Some (record { what = leaf (tree run.what); rest = run.rest })) (λ e. tt) tt
+named-IsAt : (b : ℕ) (tree : List ℕ → Leaf) (run : Read (List ℕ)) → IsAt b (named tree run)
+named-IsAt b tree run = chosen (length run.what == 0) b None (Some (record { what = operand (tree run.what); rest = run.rest })) (λ e. tt) tt
 
-pub part_at-IsAt : (b : ℕ) (s : List ℕ) → IsAt b (part_at (b ∷ s))
-part_at-IsAt b s =
+pub token_at-IsAt : (b : ℕ) (s : List ℕ) → IsAt b (token_at (b ∷ s))
+token_at-IsAt b s =
     chosen (b == 43) b _ _ (eqb-true b 43)
     (chosen (b == 45) b _ _ (eqb-true b 45)
     (chosen (b == 42) b _ _ (eqb-true b 42)
@@ -65,4 +66,4 @@ part_at-IsAt b s =
     (chosen (b == 40) b _ _ (eqb-true b 40)
     (chosen (b == 41) b _ _ (eqb-true b 41)
     (chosen (b == 36) b _ _ (λ e. named-IsAt b name (run_of is_name_byte s))
-    (chosen (begins_decimal (b ∷ s)) b _ _ (λ e. tt) (named-IsAt b unit (run_of is_letter (b ∷ s))))))))))
+    (chosen (begins_decimal (b ∷ s)) b _ _ (λ e. tt) (named-IsAt b unit (run_of is_ascii_alphabetic (b ∷ s))))))))))
