@@ -1,13 +1,14 @@
 //! The lines and words of a text, and names.
 #![tactic(auto)]
 
+mod fault;
 pub mod laws;
 mod line;
 mod lines;
 mod name;
-mod unended;
+mod partial_line;
 mod words;
 
 pub use line::Line;
-pub use lines::{LineFault, Lines};
+pub use lines::{LineFault, Lines, MAX_LINE};
 pub use name::{Name, is_name};

@@ -1,10 +1,14 @@
-ghost use Rattle.std.specs.Prelude.{◌≡◌, ◌≢◌, ◌<◌, ◌-◌, ◌^◌, [], ◌∷◌, ◌++◌, IfOk, IfErr, OnOk, position, not};
-ghost use Rattle.gx_text.specs.Lines.{ended, fault_of, fault_at, is_allowed as is_allowed_byte};
-ghost use Rattle.gx_text.specs.State.{Answers, after_byte, at_end};
+ghost use Rattle.std.specs.Prelude.{◌≡◌, ◌≢◌, ◌==◌, false, ◌∷◌, [], ◌++◌, length, None, Ok, Err, IfOk, IfErr, All, position};
+ghost use Rattle.std.specs.Io.BufRead.{take_through};
+ghost use Rattle.std.specs.Result.{result_map_both};
+ghost use Rattle.gx_text.specs.Lines.{ended};
+ghost use Rattle.gx_text.specs.ScannerState.{Answers, AnswersEnd, fault_in, after_byte, after_bytes, next_line};
+ghost use Rattle.gx_text.specs.ScannerState.ScannerState.{Scanning};
 
+use crate::fault::first_fault;
 use crate::line::Line;
-use crate::unended::Unended;
-use crate::words::words;
+use crate::partial_line::PartialLine;
+use crate::words::visible;
 use gx_num::NoMemory;
 use std::alloc::Global;
 use std::marker::Model;
@@ -31,45 +35,43 @@ impl From<NoMemory> for LineFault {
     }
 }
 
-/// Takes a text byte by byte and gives each line as its last byte comes, and a line's fault as the byte comes that decides it.
+/// Takes a text, byte by byte or slice by slice, and gives each line as its last byte comes, and a line's fault as the
+/// byte comes that decides it. Once it has answered a fault, it answers that to every call.
 #[derive(Drop)]
 pub struct Lines {
     alloc: Global,
     number: u32,
-    line: Unended,
+    line: PartialLine,
     fault: Option<LineFault>,
 }
 
 impl Model for Lines {
     ghost use Rattle.std.specs.Prelude.{◌≡◌, None};
     ghost use Rattle.gx_text.specs.Lines.{fault_of};
-    ghost use Rattle.gx_text.specs.State.{State};
+    ghost use Rattle.gx_text.specs.ScannerState.{ScannerState, state_of};
 
-    ghost Value = { State };
+    ghost Value = { ScannerState };
 
-    ghost view = { λ l. record { number = l.number; line = l.line; fault = l.fault } };
+    ghost view = { λ l. state_of l.fault l.number l.line };
 
     ghost invariant = { λ l. l.fault ≡ None → fault_of l.number l.line ≡ None };
 }
 
 impl Lines {
     pub fn new(alloc: Global) -> Lines
-        ensures number { result.number ≡ 1 }
-        ensures line { result.line ≡ [] }
-        ensures fault { result.fault ≡ None }
+        ensures { result ≡ Scanning 1 [] }
     {
         Lines {
             alloc,
             number: 1,
-            line: Unended::new(alloc),
+            line: PartialLine::new(alloc),
             fault: None,
         }
     }
 
     /// Takes the next byte, and gives the line that it ends, if that has a word.
     pub fn push(&mut self, byte: u8) -> Result<Option<Line>, LineFault>
-        requires { self.old.number < 2 ^ 32 - 1 }
-        ensures { Answers (after_byte self.old byte) self.new result }
+        ensures { Answers self.old (after_byte self.old byte) self.new result }
     {
         if let Some(fault) = self.fault {
             return Err(fault);
@@ -86,43 +88,119 @@ impl Lines {
         }
     }
 
-    fn end(&mut self) -> Result<Option<Line>, LineFault>
-        requires number { self.old.number < 2 ^ 32 - 1 }
-        requires fault { self.old.fault ≡ None }
-        ensures { Answers (after_byte self.old 10) self.new result }
+    /// Takes the next bytes up to and with the first LF, or all where there is none. Gives how many it took, and the
+    /// line that they end, if one is ended and has a word.
+    pub fn take(&mut self, bytes: &[u8]) -> Result<(usize, Option<Line>), LineFault>
+        ensures count { IfOk result (λ taken. taken.0 ≡ length (take_through 10 bytes.now)) }
+        ensures answer { Answers self.old (after_bytes self.old (take_through 10 bytes.now)) self.new (result_map_both (λ taken. taken.1) (λ fault. fault) result) }
     {
-        match end_line(self.alloc, self.number, self.line.bytes()) {
+        match first_lf(bytes) {
+            Some(end) => match self.take_line(&bytes[..end]) {
+                Ok(line) => Ok((end + 1, line)),
+                Err(fault) => Err(fault),
+            },
+            None => match self.take_part(bytes) {
+                Ok(line) => Ok((bytes.len(), line)),
+                Err(fault) => Err(fault),
+            },
+        }
+    }
+
+    // The rest of a line, and its LF.
+    fn take_line(&mut self, rest: &[u8]) -> Result<Option<Line>, LineFault>
+        requires { All (λ b. (b == 10) ≡ false) rest.now }
+        ensures { Answers self.old (after_bytes self.old (rest.now ++ 10 ∷ [])) self.new result }
+    {
+        if let Some(fault) = self.fault {
+            return Err(fault);
+        }
+        if !self.line.is_empty() {
+            return match self.line.extend(self.number, rest) {
+                Ok(()) => self.end(),
+                Err(fault) => {
+                self.fault = Some(fault);
+                Err(fault)
+            }
+            };
+        }
+        match ended_line(self.alloc, self.number, rest) {
             Ok(line) => {
-                self.number += 1;
-                self.line.clear();
+                self.next_line();
                 Ok(line)
             }
-            Err(NoMemory) => {
-                self.fault = Some(LineFault::NoMemory);
-                Err(LineFault::NoMemory)
+            Err(fault) => {
+                self.fault = Some(fault);
+                Err(fault)
+            }
+        }
+    }
+
+    // The line is ended.
+    fn end(&mut self) -> Result<Option<Line>, LineFault>
+        requires { fault_in self.old ≡ None }
+        ensures { Answers self.old (after_byte self.old 10) self.new result }
+    {
+        match ended_line(self.alloc, self.number, self.line.bytes()) {
+            Ok(line) => {
+                self.next_line();
+                Ok(line)
+            }
+            Err(fault) => {
+                self.fault = Some(fault);
+                Err(fault)
+            }
+        }
+    }
+
+    fn next_line(&mut self)
+        ensures { self.new ≡ next_line self.old }
+    {
+        self.number = self.number.saturating_add(1);
+        self.line.clear();
+    }
+
+    // Bytes of a line that don't end it.
+    fn take_part(&mut self, part: &[u8]) -> Result<Option<Line>, LineFault>
+        requires { All (λ b. (b == 10) ≡ false) part.now }
+        ensures { Answers self.old (after_bytes self.old part.now) self.new result }
+    {
+        if let Some(fault) = self.fault {
+            return Err(fault);
+        }
+        match self.line.extend(self.number, part) {
+            Ok(()) => Ok(None),
+            Err(fault) => {
+                self.fault = Some(fault);
+                Err(fault)
             }
         }
     }
 
     /// The last line, if it has a word and no LF ended it.
     pub fn finish(self) -> Result<Option<Line>, LineFault>
-        ensures ok { IfOk result (λ line. at_end self ≡ Ok line) }
-        ensures cause { IfErr result (λ fault. fault ≢ LineFault.NoMemory → at_end self ≡ Err fault) }
+        ensures { AnswersEnd self result }
     {
-        if let Some(fault) = self.fault {
-            return Err(fault);
+        match self.fault {
+            Some(fault) => Err(fault),
+            None => ended_line(self.alloc, self.number, self.line.bytes()),
         }
-        Ok(end_line(self.alloc, self.number, self.line.bytes())?)
     }
 }
 
-fn end_line(alloc: Global, number: u32, line: &[u8]) -> Result<Option<Line>, NoMemory>
-    requires { fault_of number line.now ≡ None }
-    ensures { IfOk result (λ ended_line. ended number line.now ≡ Ok ended_line) }
+fn first_lf(bytes: &[u8]) -> Option<usize>
+    ensures { result ≡ position (λ b. b == 10) bytes.now }
 {
-    let words = words(alloc, line)?;
-    if words.is_empty() {
-        return Ok(None);
+    bytes.iter().position(|byte| *byte == b'\n')
+}
+
+// A line as it is read.
+fn ended_line(alloc: Global, number: u32, line: &[u8]) -> Result<Option<Line>, LineFault>
+    ensures ok { IfOk result (λ read. ended number line.now ≡ Ok read) }
+    ensures err { IfErr result (λ fault. fault ≢ LineFault.NoMemory → ended number line.now ≡ Err fault) }
+{
+    let visible = visible(line);
+    match first_fault(number, line, visible) {
+        Some(fault) => Err(fault),
+        None => Ok(Line::new(alloc, number, visible)?),
     }
-    Ok(Some(Line { number, words }))
 }
