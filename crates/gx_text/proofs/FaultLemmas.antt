@@ -263,8 +263,8 @@ pub fault_within : (number : ℕ) (line bytes : List ℕ) (i : ℕ) (fault : Lin
 fault_within number line bytes i fault h found =
     let b = get_or bytes i 0 in
     let whole : ((line ++ take i bytes) ++ b ∷ []) ++ drop (i + 1) bytes ≡ line ++ bytes =
-        append_assoc (line ++ take i bytes) (b ∷ []) (drop (i + 1) bytes) ∙ ap (λ rest. (line ++ take i bytes) ++ rest) (sym (drop_more bytes i 0 h))
-        ∙ append_assoc line (take i bytes) (drop i bytes) ∙ ap (λ rest. line ++ rest) (take-append-drop i bytes) in
+    append_assoc (line ++ take i bytes) (b ∷ []) (drop (i + 1) bytes) ∙ ap (λ rest. (line ++ take i bytes) ++ rest) (sym (drop_more bytes i 0 h))
+    ∙ append_assoc line (take i bytes) (drop i bytes) ∙ ap (λ rest. line ++ rest) (take-append-drop i bytes) in
     ap (fault_of number) (sym whole) ∙ fault_stays number ((line ++ take i bytes) ++ b ∷ []) (drop (i + 1) bytes) fault found
 
 no_place : (number : ℕ) (line : List ℕ) (o : Option ℕ) → fault_at number line o ≡ None → o ≡ None

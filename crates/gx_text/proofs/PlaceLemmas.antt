@@ -1,5 +1,5 @@
 -- Where the words of a text stand.
-use Rattle.std.proofs.Common.{◌≡◌, ℕ, ◌+◌, ◌-◌, ◌<◌, ◌≤◌, Bool, true, false, cond, inl, inr, List, [], ◌∷◌, ◌++◌, length, get_or, take, drop, map, refl, sym, ap, ◌∙◌, arith, length-take, length-drop, length-append, append_assoc, append-nil}
+use Rattle.std.proofs.Common.{◌≡◌, ℕ, ◌+◌, ◌-◌, ◌<◌, ◌≤◌, Bool, true, false, cond, inl, inr, List, [], ◌∷◌, ◌++◌, length, get_or, drop, refl, sym, ap, ◌∙◌, arith, length-take, length-drop, length-append, append_assoc, append-nil}
 use Rattle.std.specs.Prelude.{◌==◌, not, nat_lt, filter, slice_range, All}
 use Rattle.std.specs.List.{slice_split}
 use Rattle.std.proofs.lemmas.Bool.{cases_eq}
@@ -62,10 +62,10 @@ module _ (text : List ℕ) (start i : ℕ) (places : List Place) (found : Found 
   pub at_blank : i < length text → is_blank (get_or text i 0) ≡ true → Found text (i + 1) (i + 1) (places ++ unless_empty start i)
   at_blank h e =
       let here : words_in (drop start text) ≡ words_at text (unless_empty start i) ++ words_in (drop (i + 1) text) =
-          ap words_in (drop_split text start i found.ordered ∙ ap (λ rest. slice_range text start i ++ rest) (drop_more text i 0 h))
-          ∙ ap (filter is_word) (slice_split_at is_blank (slice_range text start i) (get_or text i 0) (drop (i + 1) text) all_clear e)
-          ∙ filter-append is_word (slice_range text start i ∷ []) (slice_split is_blank (drop (i + 1) text))
-          ∙ ap (λ first. first ++ words_in (drop (i + 1) text)) (word_here text start i found.ordered short) in
+      ap words_in (drop_split text start i found.ordered ∙ ap (λ rest. slice_range text start i ++ rest) (drop_more text i 0 h))
+      ∙ ap (filter is_word) (slice_split_at is_blank (slice_range text start i) (get_or text i 0) (drop (i + 1) text) all_clear e)
+      ∙ filter-append is_word (slice_range text start i ∷ []) (slice_split is_blank (drop (i + 1) text))
+      ∙ ap (λ first. first ++ words_in (drop (i + 1) text)) (word_here text start i found.ordered short) in
       record {
         ordered = omega arith;
         words = before (words_in (drop (i + 1) text)) here;
@@ -94,10 +94,10 @@ module _ (text : List ℕ) (start : ℕ) (places : List Place) (found : Found te
   all_words =
       let part = slice_range text start (length text) in
       let last : words_in (drop start text) ≡ words_at text (unless_empty start (length text)) ++ [] =
-          ap words_in (sym (take_rest text start))
-          ∙ ap (filter is_word) (slice_split_none is_blank part (all_clear text start (length text) places found (omega arith)))
-          ∙ word_here text start (length text) found.ordered (omega arith)
-          ∙ sym (append-nil (words_at text (unless_empty start (length text)))) in
+      ap words_in (sym (take_rest text start))
+      ∙ ap (filter is_word) (slice_split_none is_blank part (all_clear text start (length text) places found (omega arith)))
+      ∙ word_here text start (length text) found.ordered (omega arith)
+      ∙ sym (append-nil (words_at text (unless_empty start (length text)))) in
       before text start (length text) places found (omega arith) [] last ∙ append-nil (words_at text (places ++ unless_empty start (length text)))
 
   pub all_within : All (IsWithin (length text)) (places ++ unless_empty start (length text))

@@ -12,7 +12,7 @@ use Rattle.gx_text.specs.declared.lines.LineFault.{LineFault}
 use Rattle.gx_text.specs.declared.lines.LineFault.TheVariants.{NoMemory}
 use Rattle.gx_text.specs.TextLine.{TextLine}
 use Rattle.gx_text.specs.Lines.{ended, ended_with, fault_of}
-use Rattle.gx_text.specs.ScannerState.{ScannerState, Step, state_of, failing, going_on, ending, next_line, after_byte, after_bytes, IsTaken, Answers}
+use Rattle.gx_text.specs.ScannerState.{ScannerState, Step, state_of, fault_in, failing, going_on, ending, next_line, after_byte, after_bytes, IsTaken, Answers}
 use Rattle.gx_text.specs.ScannerState.ScannerState.{Scanning, Failed}
 use Rattle.gx_text.proofs.FaultLemmas.{fault_stays, position_cons, one_back, none_back, none_some}
 
@@ -135,6 +135,11 @@ no_lf_by b rest false t e ih =
 pub no_lf : (text : List ℕ) → position is_lf text ≡ None → NoLf text
 no_lf [] e = record { all = λ k d h. absurd (omega arith); through = refl }
 no_lf (b ∷ rest) e = no_lf_by b rest _ refl (sym (position_cons is_lf b rest) ∙ e) (no_lf rest)
+
+-- the state of fields that keep no fault
+pub no_fault : (fault : Option LineFault) (number : ℕ) (line : List ℕ) (s : ScannerState) → state_of fault number line ≡ s → fault_in s ≡ None → fault ≡ None
+no_fault None number line s is none = refl
+no_fault (Some fault) number line s is none = absurd (none_some fault (sym (rw (sym is) at none)))
 
 pub scanning : (fault : Option LineFault) (number : ℕ) (line : List ℕ) (s : ScannerState) → state_of fault number line ≡ s → fault ≡ None → s ≡ Scanning number line
 scanning fault number line s is none = sym is ∙ ap (λ fault. state_of fault number line) none

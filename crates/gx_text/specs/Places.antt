@@ -1,5 +1,5 @@
 -- Where the words of a line stand in its bytes. No public contract stands on this file.
-use Rattle.std.specs.Prelude.{ℕ, ◌≤◌, List, [], ◌∷◌, length, map, nat_lt, slice_range, if◌then◌else◌}
+use Rattle.std.specs.Prelude.{ℕ, ◌≤◌, List, [], ◌∷◌, map, nat_lt, slice_range, if◌then◌else◌}
 use Rattle.gx_text.specs.declared.line.Place.{Place}
 
 abbrev pub words_at : List ℕ → List Place → List (List ℕ)

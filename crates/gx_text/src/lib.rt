@@ -7,8 +7,10 @@ mod line;
 mod lines;
 mod name;
 mod partial_line;
+#[cfg(test)]
+mod tests;
 mod words;
 
 pub use line::Line;
-pub use lines::{LineFault, Lines, MAX_LINE};
+pub use lines::{LineFault, Lines};
 pub use name::{Name, is_name};

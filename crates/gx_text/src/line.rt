@@ -1,8 +1,10 @@
-ghost use Rattle.std.specs.Prelude.{◌≡◌, ◌≤◌, ◌-◌, [], ◌++◌, length, slice_index_or, All, IfOk, OnOk};
-ghost use Rattle.gx_text.specs.Lines.{line_of, words_in, is_blank as is_blank_byte};
+ghost use Rattle.std.specs.Prelude.{◌≡◌, ◌≢◌, ◌≤◌, ◌-◌, [], ◌++◌, length, slice_index_or, All, Ok, Err, IfOk, IfErr, OnOk};
+ghost use Rattle.gx_text.specs.Lines.{ended, line_of, words_in, is_blank as is_blank_byte};
 ghost use Rattle.gx_text.specs.Places.{words_at, unless_empty, IsWithin};
 
-use crate::lines::MAX_LINE;
+use crate::fault::first_fault;
+use crate::lines::{LineFault, MAX_LINE};
+use crate::words::visible;
 use gx_num::NoMemory;
 use std::alloc::Global;
 use std::marker::Model;
@@ -36,8 +38,19 @@ impl Model for Line {
 }
 
 impl Line {
-    /// The line of these bytes, where they have a word.
-    pub fn new(alloc: Global, number: u32, text: &[u8]) -> Result<Option<Line>, NoMemory>
+    /// What a line with these bytes gives when it is ended: itself, where it has a word, or its fault.
+    pub(crate) fn ended(alloc: Global, number: u32, line: &[u8]) -> Result<Option<Line>, LineFault>
+        ensures ok { IfOk result (λ read. ended number line.now ≡ Ok read) }
+        ensures err { IfErr result (λ fault. fault ≢ LineFault.NoMemory → ended number line.now ≡ Err fault) }
+    {
+        let visible = visible(line);
+        match first_fault(number, line, visible) {
+            Some(fault) => Err(fault),
+            None => Ok(Line::new(alloc, number, visible)?),
+        }
+    }
+
+    fn new(alloc: Global, number: u32, text: &[u8]) -> Result<Option<Line>, NoMemory>
         requires { length text.now ≤ MAX_LINE }
         ensures { IfOk result (λ line. line ≡ line_of number (words_in text.now)) }
     {

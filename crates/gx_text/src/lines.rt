@@ -1,14 +1,11 @@
-ghost use Rattle.std.specs.Prelude.{◌≡◌, ◌≢◌, ◌==◌, false, ◌∷◌, [], ◌++◌, length, None, Ok, Err, IfOk, IfErr, All, position};
+ghost use Rattle.std.specs.Prelude.{◌≡◌, ◌≢◌, ◌==◌, false, ◌∷◌, [], ◌++◌, length, None, Some, Err, IfOk, All, position};
 ghost use Rattle.std.specs.Io.BufRead.{take_through};
 ghost use Rattle.std.specs.Result.{result_map_both};
-ghost use Rattle.gx_text.specs.Lines.{ended};
 ghost use Rattle.gx_text.specs.ScannerState.{Answers, AnswersEnd, fault_in, after_byte, after_bytes, next_line};
 ghost use Rattle.gx_text.specs.ScannerState.ScannerState.{Scanning};
 
-use crate::fault::first_fault;
 use crate::line::Line;
 use crate::partial_line::PartialLine;
-use crate::words::visible;
 use gx_num::NoMemory;
 use std::alloc::Global;
 use std::marker::Model;
@@ -73,27 +70,27 @@ impl Lines {
     pub fn push(&mut self, byte: u8) -> Result<Option<Line>, LineFault>
         ensures { Answers self.old (after_byte self.old byte) self.new result }
     {
-        if let Some(fault) = self.fault {
-            return Err(fault);
+        if let Some(kept) = self.fault {
+            return Err(kept);
         }
         if byte == b'\n' {
             return self.end();
         }
         match self.line.push(self.number, byte) {
             Ok(()) => Ok(None),
-            Err(fault) => {
-                self.fault = Some(fault);
-                Err(fault)
-            }
+            Err(fault) => fail(&mut self.fault, fault),
         }
     }
 
-    /// Takes the next bytes up to and with the first LF, or all where there is none. Gives how many it took, and the
+    /// Takes the next bytes, up to and with the first LF, or all where there is none. Gives how many it took, and the
     /// line that they end, if one is ended and has a word.
     pub fn take(&mut self, bytes: &[u8]) -> Result<(usize, Option<Line>), LineFault>
         ensures count { IfOk result (λ taken. taken.0 ≡ length (take_through 10 bytes.now)) }
         ensures answer { Answers self.old (after_bytes self.old (take_through 10 bytes.now)) self.new (result_map_both (λ taken. taken.1) (λ fault. fault) result) }
     {
+        if let Some(fault) = self.fault {
+            return Err(fault);
+        }
         match first_lf(bytes) {
             Some(end) => match self.take_line(&bytes[..end]) {
                 Ok(line) => Ok((end + 1, line)),
@@ -108,30 +105,34 @@ impl Lines {
 
     // The rest of a line, and its LF.
     fn take_line(&mut self, rest: &[u8]) -> Result<Option<Line>, LineFault>
-        requires { All (λ b. (b == 10) ≡ false) rest.now }
+        requires fault { fault_in self.old ≡ None }
+        requires rest { All (λ b. (b == 10) ≡ false) rest.now }
         ensures { Answers self.old (after_bytes self.old (rest.now ++ 10 ∷ [])) self.new result }
     {
-        if let Some(fault) = self.fault {
-            return Err(fault);
-        }
         if !self.line.is_empty() {
             return match self.line.extend(self.number, rest) {
                 Ok(()) => self.end(),
-                Err(fault) => {
-                self.fault = Some(fault);
-                Err(fault)
-            }
+                Err(fault) => fail(&mut self.fault, fault),
             };
         }
-        match ended_line(self.alloc, self.number, rest) {
+        match Line::ended(self.alloc, self.number, rest) {
             Ok(line) => {
                 self.next_line();
                 Ok(line)
             }
-            Err(fault) => {
-                self.fault = Some(fault);
-                Err(fault)
-            }
+            Err(fault) => fail(&mut self.fault, fault),
+        }
+    }
+
+    // Bytes of a line that don't end it.
+    fn take_part(&mut self, part: &[u8]) -> Result<Option<Line>, LineFault>
+        requires fault { fault_in self.old ≡ None }
+        requires part { All (λ b. (b == 10) ≡ false) part.now }
+        ensures { Answers self.old (after_bytes self.old part.now) self.new result }
+    {
+        match self.line.extend(self.number, part) {
+            Ok(()) => Ok(None),
+            Err(fault) => fail(&mut self.fault, fault),
         }
     }
 
@@ -140,15 +141,12 @@ impl Lines {
         requires { fault_in self.old ≡ None }
         ensures { Answers self.old (after_byte self.old 10) self.new result }
     {
-        match ended_line(self.alloc, self.number, self.line.bytes()) {
+        match Line::ended(self.alloc, self.number, self.line.bytes()) {
             Ok(line) => {
                 self.next_line();
                 Ok(line)
             }
-            Err(fault) => {
-                self.fault = Some(fault);
-                Err(fault)
-            }
+            Err(fault) => fail(&mut self.fault, fault),
         }
     }
 
@@ -159,48 +157,28 @@ impl Lines {
         self.line.clear();
     }
 
-    // Bytes of a line that don't end it.
-    fn take_part(&mut self, part: &[u8]) -> Result<Option<Line>, LineFault>
-        requires { All (λ b. (b == 10) ≡ false) part.now }
-        ensures { Answers self.old (after_bytes self.old part.now) self.new result }
-    {
-        if let Some(fault) = self.fault {
-            return Err(fault);
-        }
-        match self.line.extend(self.number, part) {
-            Ok(()) => Ok(None),
-            Err(fault) => {
-                self.fault = Some(fault);
-                Err(fault)
-            }
-        }
-    }
-
     /// The last line, if it has a word and no LF ended it.
     pub fn finish(self) -> Result<Option<Line>, LineFault>
         ensures { AnswersEnd self result }
     {
         match self.fault {
             Some(fault) => Err(fault),
-            None => ended_line(self.alloc, self.number, self.line.bytes()),
+            None => Line::ended(self.alloc, self.number, self.line.bytes()),
         }
     }
+}
+
+// A fault is answered, and kept.
+fn fail(kept: &mut Option<LineFault>, fault: LineFault) -> Result<Option<Line>, LineFault>
+    ensures kept { kept.new ≡ Some fault }
+    ensures answer { result ≡ Err fault }
+{
+    *kept = Some(fault);
+    Err(fault)
 }
 
 fn first_lf(bytes: &[u8]) -> Option<usize>
     ensures { result ≡ position (λ b. b == 10) bytes.now }
 {
     bytes.iter().position(|byte| *byte == b'\n')
-}
-
-// A line as it is read.
-fn ended_line(alloc: Global, number: u32, line: &[u8]) -> Result<Option<Line>, LineFault>
-    ensures ok { IfOk result (λ read. ended number line.now ≡ Ok read) }
-    ensures err { IfErr result (λ fault. fault ≢ LineFault.NoMemory → ended number line.now ≡ Err fault) }
-{
-    let visible = visible(line);
-    match first_fault(number, line, visible) {
-        Some(fault) => Err(fault),
-        None => Ok(Line::new(alloc, number, visible)?),
-    }
 }

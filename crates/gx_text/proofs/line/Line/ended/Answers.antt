@@ -1,7 +1,7 @@
 use Rattle.std.proofs.Common.{length, sym, ap, arith}
 use Rattle.gx_text.proofs.CommentLemmas.{visible_le}
 use Rattle.gx_text.proofs.FaultLemmas.{short}
-use Rattle.gx_text.proofs.lines.ended_line.Goals as goal
+use Rattle.gx_text.proofs.line.Line.ended.Goals as goal
 
 pub new-requires : goal.new-requires
 new-requires c =
