@@ -1,20 +1,11 @@
 ghost use Rattle.std.specs.Prelude.{◌≡◌};
-ghost use Rattle.gx_text.specs.Lines.{begins_comment, before_comment, visible_of};
-
-fn starts_comment(rest: &[u8]) -> bool
-    ensures { result ≡ begins_comment rest.now }
-{
-    match rest {
-        [first, second, ..] => *first == b'/' && *second == b'/',
-        _ => false,
-    }
-}
+ghost use Rattle.gx_text.specs.Lines.{before_comment, visible_of};
 
 fn without_comment(line: &[u8]) -> &[u8]
     ensures { result.now ≡ before_comment line.now }
 {
-    for i in 0..line.len() {
-        if starts_comment(&line[i..]) {
+    for i in 0..line.len().saturating_sub(1) {
+        if line[i] == b'/' && line[i + 1] == b'/' {
             return &line[..i];
         }
     }
