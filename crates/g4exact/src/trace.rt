@@ -6,17 +6,18 @@ ghost use Rattle.gx_shapes.specs.Shape.{IsShape};
 ghost use Rattle.gx_tree.specs.World.{place_on};
 ghost use Rattle.gx_path.specs.Report.{Row, IsReport};
 ghost use Rattle.gx_path.specs.Span.{rows_of};
+ghost use Rattle.gx_print.specs.Texts.{fault_line};
 ghost use Rattle.g4exact.specs.Output.{ray_text, IsTrace, IsTraceOf};
 ghost use Rattle.g4exact.specs.Ends.{Ends, Blames, WritesTrace};
 
 use crate::outcome::Status;
 use gx_expr::Grid;
-use gx_io::{Failed, Sink};
+use gx_io::{Buffer, Failed, Print, Sink, print_buffered};
 use gx_navigator::world_span;
 use gx_num::Ray;
 use gx_path::Span;
 use gx_print::{print_fault, print_ray, print_row};
-use gx_reader::{Input, ReadError, read_text};
+use gx_reader::{Input, ReadError, TextFault, read_text};
 use gx_tree::Hierarchy;
 use std::alloc::Global;
 
@@ -64,17 +65,48 @@ fn print_reports<K: Sink>(input: &Input, sink: &mut K) -> Result<(), Failed>
     Ok(())
 }
 
-/// Writes what a text's trace is.
+// The reports of an input's rays.
+#[derive(Drop)]
+struct Reports {
+    input: Input,
+}
+
+impl Print for Reports {
+    ghost prints = { λ reports bytes. IsTrace reports.input.tree 1 reports.input.rays bytes };
+
+    fn print<K: Sink>(&self, sink: &mut K) -> Result<(), Failed> {
+        print_reports(&self.input, sink)
+    }
+}
+
+// The line of a text's fault.
+#[derive(Drop)]
+struct FaultLine {
+    fault: TextFault,
+}
+
+impl Print for FaultLine {
+    ghost prints = { λ line bytes. bytes ≡ fault_line line.fault };
+
+    fn print<K: Sink>(&self, sink: &mut K) -> Result<(), Failed> {
+        print_fault(&self.fault, sink)
+    }
+}
+
+/// Writes what a text's trace is, in large pieces.
 pub fn trace<K: Sink>(alloc: Global, grid: &Grid, text: &[u8], sink: &mut K) -> Status
     ensures output { Ends (IsTraceOf (reading grid.now text.now)) (K.written sink.old) (K.written sink.new) result }
     ensures blames { (source : ℕ) → Blames source source (K.faults sink.old) (K.faults sink.new) result }
 {
+    let Ok(buffer) = Buffer::new(alloc) else {
+        return Status::NoMemory;
+    };
     match read_text(alloc, grid, text) {
-        Ok(input) => match print_reports(&input, sink) {
+        Ok(input) => match print_buffered(buffer, sink, &Reports { input }) {
             Ok(()) => Status::Clean,
             Err(Failed) => Status::WriteFault,
         },
-        Err(ReadError::Text(fault)) => match print_fault(&fault, sink) {
+        Err(ReadError::Text(fault)) => match print_buffered(buffer, sink, &FaultLine { fault }) {
             Ok(()) => Status::TextFault,
             Err(Failed) => Status::WriteFault,
         },

@@ -16,7 +16,8 @@ use Rattle.gx_convex.specs.Hull.{IsAtMost, IsBound, IsHullOf}
 use Rattle.gx_convex.specs.Extent.{lower, upper, extent_of}
 use Rattle.gx_convex.specs.Faces.{faces_of}
 use Rattle.gx_convex.specs.Laws.{IsBetween, FacesAreTheSolid}
-use Rattle.gx_convex.proofs.Truth.{Decides-itself, Decides-supports, Decides-is_in, Decides-is_inside}
+use Rattle.gx_plane.proofs.PlaneFacts.{Decides-supports}
+use Rattle.gx_convex.proofs.Truth.{Decides-itself, Decides-is_in, Decides-is_inside}
 use Rattle.gx_convex.proofs.Strict.{strict}
 use Rattle.gx_convex.proofs.FaceFacts.{faces_bound, implied}
 use Rattle.gx_convex.proofs.Extents.{low_below, high_above}

@@ -13,7 +13,7 @@ use Rattle.gx_algebra.proofs.Identities.{same3}
 use Rattle.gx_plane.specs.Plane.{side_of}
 use Rattle.gx_convex.specs.Points.{is_same, distinct_by, distinct}
 use Rattle.gx_convex.specs.Hull.{IsBound, IsHullOf}
-use Rattle.gx_convex.proofs.Truth.{Decides-supports}
+use Rattle.gx_plane.proofs.PlaneFacts.{Decides-supports}
 
 pub Decides-is_same : (a b : V3) → Decides (is_same a b) (a ≡ b)
 Decides-is_same a b =

@@ -1,28 +1,27 @@
 -- The faces of points that aren't coplanar bound the points, and imply each half-space that does.
-use Rattle.std.proofs.Common.{◌≡◌, Bool, true, false, ◌&&◌, cond, Option, Some, None, List, [], ◌∷◌, ◌++◌, flat_map, filter, map, All, ℤ, pos, ◌-ℤ◌, ◌*ℤ◌, ◌≤ℤ◌, ◌<ℤ◌, int_le, unsigned_abs, refl, sym, ap, ◌∙◌, subst, arith}
-use Rattle.std.specs.Prelude.{Contains}
+use Rattle.std.proofs.Common.{get_or, ◌≡◌, Bool, true, false, ◌&&◌, cond, Option, Some, None, List, [], ◌∷◌, ◌++◌, flat_map, filter, find, map, All, ℤ, pos, ◌-ℤ◌, ◌*ℤ◌, ◌≤ℤ◌, ◌<ℤ◌, int_le, unsigned_abs, refl, sym, ap, ◌∙◌, subst, arith, true≢false}
+use Rattle.std.specs.List.{cons_option}
 use Rattle.std.specs.Ordering.{int_eq}
 use Rattle.std.specs.Bool.{Decides}
 use Rattle.std.proofs.lemmas.Bool.Decides.{Decides-int_eq, Decides-and, Decides-like}
 use Rattle.std.proofs.lemmas.Int.{by_lt_z}
-use Rattle.std.proofs.lemmas.List.{append-nil}
-use Rattle.std.proofs.lemmas.List.Elements.{All-nil, All-cons, All-head, All-tail, All-append, All-map, All-weaker, All-contains}
+use Rattle.std.proofs.lemmas.List.Elements.{All-nil, All-cons, All-head, All-tail, All-append, All-map, All-weaker, All-contains, filter-append}
 use Rattle.std.proofs.lemmas.List.Sums.{AllPass-from_list_all}
 use Rattle.gx_num.specs.declared.vector.V3.{V3}
 use Rattle.gx_num.specs.Space.{HalfSpace, is_in, normal_dot}
 use Rattle.gx_num.specs.Vector4.{Vec4, dot4}
-use Rattle.gx_plane.specs.Laws.{Spans, IsBeyond}
 use Rattle.gx_plane.specs.Plane.{divisor_of, is_zero, side_of, supports, flipped, normal_of, plane_through}
-use Rattle.gx_plane.specs.Between.{is_between, triples_of, both_ways, candidates}
+use Rattle.gx_plane.specs.Between.{triples_of, both_ways, candidates}
 use Rattle.gx_plane.proofs.Divisors.{divisor_of-opposite, not_zero-divisor_of, IsPrimitive-primitive}
-use Rattle.gx_plane.proofs.PlaneFacts.{plane_through_some}
-use Rattle.gx_plane.proofs.Complete.{within, lifted, sides, IsTilted, tilted_candidate}
+use Rattle.gx_plane.proofs.PlaneFacts.{plane_through_some, side_of-flipped}
+use Rattle.gx_plane.proofs.TripleFacts.{planes_of}
+use Rattle.gx_plane.proofs.Complete.{lifted, within, dot4-within, tilted_supporting}
 use Rattle.gx_convex.specs.Points.{is_same, are_coplanar}
 use Rattle.gx_convex.specs.Faces.{is_same_plane, faces_of}
 use Rattle.gx_convex.specs.Hull.{IsAtMost, IsBound}
 use Rattle.gx_convex.proofs.Distinct.{Decides-is_same, All-distinct_by, All-from_distinct_by}
-use Rattle.gx_convex.proofs.Truth.{Decides-int_le, Decides-supports}
-use Rattle.gx_convex.proofs.Supporting.{broken_by, dot4-within, dot4-broken_by, Spans-within}
+use Rattle.gx_plane.proofs.PlaneFacts.{Decides-int_le, Decides-supports}
+use Rattle.gx_convex.proofs.Spanning.{broken_by, dot4-broken_by, Spans-within}
 use borrow.Author.Differences.{ints}
 
 -- ---- each plane once
@@ -92,23 +91,33 @@ implied vertices solid h s p inside = by_lt_z (h.e *ℤ p.w) (normal_dot h p) (�
         (All-from_distinct_by is_same_plane is_same_plane-same (λ k. int_le (normal_dot k p) (k.e *ℤ p.w) ≡ true) [] (filter (λ k. supports k vertices) (candidates vertices)) (All-nil (λ k. int_le (normal_dot k p) (k.e *ℤ p.w) ≡ true))
         (AllPass-from_list_all (λ k. int_le (normal_dot k p) (k.e *ℤ p.w)) (faces_of vertices) inside))
 
-    within_is : sides vertices [] ≡ map within vertices
-    within_is = append-nil (map within vertices)
-
-    is : (h.e *ℤ p.w) <ℤ normal_dot h p → IsBeyond (map within vertices) (broken_by p) (lifted h)
-    is lt = record {
-      above = All-map (λ m. pos 0 ≤ℤ dot4 m (lifted h)) within vertices (All-weaker (λ x. side_of h x ≤ℤ pos 0) (λ x. pos 0 ≤ℤ dot4 (within x) (lifted h)) (λ x k. omega (arith, ints, k, dot4-within h x)) vertices ((Decides-supports h vertices).0 s));
-      beyond = omega (arith, ints, lt, dot4-broken_by h p);
-    }
-
-    both : (a b : Bool) → (a && b) ≡ true → a ≡ true
-    both true b e = refl
-    both false b e = e
-
     no : (h.e *ℤ p.w) <ℤ normal_dot h p → ⊥
     no lt =
-        let t = tilted_candidate vertices [] h (broken_by p) (subst Spans (sym within_is) (Spans-within vertices solid)) (subst (λ (ms : List Vec4). IsBeyond ms (broken_by p) (lifted h)) (sym within_is) (is lt)) in
-        let k = t.plane in
-        let listed : Contains (candidates vertices) k = subst (λ (ps : List V3). Contains (candidates ps) k) (append-nil vertices) t.listed in
-        let holds = All-contains (λ k. supports k vertices ≡ true → int_le (normal_dot k p) (k.e *ℤ p.w) ≡ true) (candidates vertices) k hold listed (both (supports k vertices) (supports (flipped k) []) t.between) in
-        omega (arith, ints, t.beyond, dot4-broken_by k p, (Decides-int_le (normal_dot k p) (k.e *ℤ p.w)).0 holds)
+        let t = tilted_supporting vertices h (broken_by p) (Spans-within vertices solid) s (omega (arith, ints, lt, dot4-broken_by h p)) in
+        let k = t.0 in
+        let holds = All-contains (λ k. supports k vertices ≡ true → int_le (normal_dot k p) (k.e *ℤ p.w) ≡ true) (candidates vertices) k hold t.1.candidate t.1.supporting in
+        omega (arith, ints, t.1.beyond, dot4-broken_by k p, (Decides-int_le (normal_dot k p) (k.e *ℤ p.w)).0 holds)
+
+-- ---- at most one way of a plane bounds points that aren't coplanar
+not_both : (points : List V3) → are_coplanar points ≡ false → (h : HalfSpace) → is_zero h.n ≡ false → supports h points ≡ true → supports (flipped h) points ≡ true → ⊥
+not_both points solid h proper s t =
+    let behind = (Decides-supports h points).0 s in
+    let before = (Decides-supports (flipped h) points).0 t in
+    let zero = Spans-within points solid (lifted h)
+        (All-map (λ m. dot4 m (lifted h) ≡ pos 0) within points (λ k d lt. omega (arith, ints, behind k d lt, before k d lt, side_of-flipped h (get_or points k d), dot4-within h (get_or points k d)))) in
+    true≢false (sym (ap (λ (v : Vec4). is_zero (record { x = v.x; y = v.y; z = v.z })) zero) ∙ proper)
+
+-- so of a triple's plane, both ways, those that bound the points are the first that does
+pub filter-planes : (points : List V3) → are_coplanar points ≡ false → (a b c : V3) (rest triples : List (V3 × V3 × V3)) (o : Option HalfSpace) → triples ≡ (a, b, c) ∷ rest → o ≡ find (λ h. supports h points) (both_ways (plane_through a b c)) → filter (λ h. supports h points) (planes_of triples) ≡ cons_option o (filter (λ h. supports h points) (planes_of rest))
+filter-planes points solid a b c rest triples o steps found =
+    ap (λ ts. filter (λ h. supports h points) (planes_of ts)) steps ∙ filter-append (λ h. supports h points) (both_ways (plane_through a b c)) (planes_of rest) ∙ ways (plane_through a b c) (proper_ways (a, b, c) (plane_through a b c) refl) ∙ ap (λ (p : Option HalfSpace). cons_option p (filter (λ h. supports h points) (planes_of rest))) (sym found)
+  where
+    ways : (p : Option HalfSpace) → All (λ h. is_zero h.n ≡ false) (both_ways p) → filter (λ h. supports h points) (both_ways p) ++ filter (λ h. supports h points) (planes_of rest) ≡ cons_option (find (λ h. supports h points) (both_ways p)) (filter (λ h. supports h points) (planes_of rest))
+    ways None proper = refl
+    ways (Some h) proper = go (supports h points) (supports (flipped h) points) (not_both points solid h (All-head (λ h. is_zero h.n ≡ false) h (flipped h ∷ []) proper))
+      where
+        go : (s t : Bool) → (s ≡ true → t ≡ true → ⊥) → cond s (h ∷ cond t (flipped h ∷ []) []) (cond t (flipped h ∷ []) []) ++ filter (λ h. supports h points) (planes_of rest) ≡ cons_option (cond s (Some h) (cond t (Some (flipped h)) None)) (filter (λ h. supports h points) (planes_of rest))
+        go true true never = absurd (never refl refl)
+        go true false never = refl
+        go false true never = refl
+        go false false never = refl

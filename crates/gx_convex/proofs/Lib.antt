@@ -4,6 +4,6 @@ pub mod Cutting
 pub mod Distinct
 pub mod Extents
 pub mod FaceFacts
+pub mod Spanning
 pub mod Strict
-pub mod Supporting
 pub mod Truth

@@ -5,15 +5,13 @@ use Rattle.std.proofs.lemmas.Bool.Decides.{Decides-by_and}
 use Rattle.gx_num.specs.Space.{HalfSpace, is_in, is_inside, normal_dot}
 use Rattle.gx_num.specs.Vector4.{Vec4}
 use Rattle.gx_num.specs.declared.vector.V3.{V3}
-use Rattle.gx_plane.specs.Plane.{side_of, supports}
+use Rattle.gx_plane.specs.Plane.{side_of}
+use Rattle.gx_plane.proofs.PlaneFacts.{Decides-int_le}
 use Rattle.gx_convex.specs.Hull.{IsAtMost}
 use borrow.Author.Differences.{ints}
 
 pub Decides-itself : (b : Bool) → Decides b (b ≡ true)
 Decides-itself b = (λ e. e, λ e. e)
-
-pub Decides-int_le : (a b : ℤ) → Decides (int_le a b) (a ≤ℤ b)
-Decides-int_le a b = (λ e. omega (arith, ints, e), λ h. grind (arith, ints))
 
 pub Decides-is_in : (solid : List HalfSpace) (p : Vec4) → Decides (is_in solid p) (All (λ h. IsAtMost h p) solid)
 Decides-is_in solid p =
@@ -26,7 +24,3 @@ Decides-is_inside solid p =
 -- no point is beyond the plane, point by point
 abbrev pub AreBehind : HalfSpace → List V3 → Type 0
 AreBehind h points = All (λ p. side_of h p ≤ℤ pos 0) points
-
-pub Decides-supports : (h : HalfSpace) (points : List V3) → Decides (supports h points) (AreBehind h points)
-Decides-supports h points =
-    Decides-by_and (λ p. int_le (side_of h p) (pos 0)) (λ p. side_of h p ≤ℤ pos 0) (supports h) (λ p. Decides-int_le (side_of h p) (pos 0)) refl (λ _ _. refl) points

@@ -1,5 +1,5 @@
 -- Ratios in lowest terms or too wide, and powers of ten above 18.
-use Rattle.std.proofs.Common.{◌≡◌, ℕ, suc, ◌+◌, ◌-◌, ◌*◌, ◌%◌, ◌^◌, ◌<◌, ◌≤◌, ℤ, pos, negsuc, ◌-ℤ◌, true, false, List, length, Err, Result, min, nat_le, refl, sym, ap, ◌∙◌, nat_lt, arith, inl, inr, ◌==◌}
+use Rattle.std.proofs.Common.{◌≡◌, ℕ, suc, ◌+◌, ◌-◌, ◌*◌, ◌%◌, ◌^◌, ◌<◌, ◌≤◌, ℤ, pos, negsuc, ◌-ℤ◌, true, false, List, [], ◌∷◌, length, Err, Result, min, nat_le, refl, sym, ap, ◌∙◌, nat_lt, arith, inl, inr, ◌==◌}
 use Rattle.std.specs.Prelude.{IsTrue, if◌then◌else◌}
 use Rattle.std.proofs.Math.Nat.{div-one, pow-le-pow_right, min-eq_left, min-eq_right}
 use Rattle.std.proofs.lemmas.Bool.{leb-true, le-leb, lt-leb, lt-ltb, le-ltb, cases_lt, and_parts}
@@ -35,11 +35,8 @@ few_digits n count h g = omega (arith, pow-le-pow_right {n = 10} (omega arith) g
 
 -- ---- ratios of which one number is 1
 
-pub common_one : (n : ℕ) → common_divisor (n ∷ 1 ∷ []) ≡ 1
-common_one n = common_divisor-same (n ∷ 1 ∷ []) 1 (IsDivisor-two n 1 1 (IsGcd-from_mod n 1 1 (IsGcd-from_zero 1 (n % 1) (omega arith))))
-
-pub one_common : (d : ℕ) → 0 < d → common_divisor (1 ∷ d ∷ []) ≡ 1
-one_common d h = common_divisor-same (1 ∷ d ∷ []) 1 (IsDivisor-two 1 d 1 (IsGcd-swap d 1 1 (IsGcd-from_mod d 1 1 (IsGcd-from_zero 1 (d % 1) (omega arith)))))
+pub common_one : (n : ℕ) → common_divisor (1 ∷ n ∷ []) ≡ 1
+common_one n = common_divisor-same (1 ∷ n ∷ []) 1 (IsDivisor-two 1 n 1 (IsGcd-swap n 1 1 (IsGcd-from_mod n 1 1 (IsGcd-from_zero 1 (n % 1) (omega arith)))))
 
 lowest_whole : (n : ℕ) → lowest (pos n) 1 ≡ record { num = pos n; den = 1 }
 lowest_whole n = rw (common_one n) (ap (λ (x : ℕ). let f : Fraction = record { num = pos x; den = 1 } in f) (div-one n))

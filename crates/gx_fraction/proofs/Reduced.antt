@@ -9,6 +9,7 @@ use mir.Val.{SFits}
 use Rattle.std.proofs.lemmas.Int.{ints, to_z-of_z}
 use Rattle.std.proofs.lemmas.Bool.Decides.{nat_tests}
 use Rattle.std.proofs.lemmas.Nat.{mul-le}
+use Rattle.std.proofs.lemmas.Nat.Gcd.{IsGcd-swap}
 use Rattle.std.specs.Prelude.{int_div}
 use Rattle.gx_num.specs.Number.{common_divisor}
 use Rattle.gx_num.proofs.Divisors.{common_divisor-same, IsDivisor-two}
@@ -59,7 +60,7 @@ pub record Reduces (num : ℤ) (den : ℕ) (f : Fraction) : Type 0 where
 signed_quotient : (m g : ℕ) → 0 < g → int_div (negsuc m) (pos g) ≡ neg_ℤ (pos (suc m / g))
 signed_quotient m g h = refl
 
-value_is : (num z : ℤ) (den g : ℕ) → common_divisor (unsigned_abs num ∷ den ∷ []) ≡ g → z ≡ int_div num (pos g) → record { num = z; den = den / g } ≡ lowest num den
+value_is : (num z : ℤ) (den g : ℕ) → common_divisor (den ∷ unsigned_abs num ∷ []) ≡ g → z ≡ int_div num (pos g) → record { num = z; den = den / g } ≡ lowest num den
 value_is num z den g e h = rw (e, h) refl
 
 no_less : (n : ℕ) → nat_lt n 0 ≡ false
@@ -72,12 +73,12 @@ reduced (pos n) z den g p s f is e =
     record {
       kept = kept n den g p s f is z (ap unsigned_abs whole);
       equal = rw whole (ap pos (crossed n den g is));
-      value = value_is (pos n) z den g (common_divisor-same (n ∷ den ∷ []) g (IsDivisor-two n den g is)) whole;
+      value = value_is (pos n) z den g (common_divisor-same (den ∷ n ∷ []) g (IsDivisor-two den n g (IsGcd-swap n den g is))) whole;
     }
 reduced (negsuc n) z den g p s f is e = record {
   kept = kept (suc n) den g p s f is z (ap unsigned_abs e ∙ sign_abs (suc n / g));
   equal = rw e (same_negative (suc n / g) (suc n) (den / g) den (crossed (suc n) den g is));
-  value = value_is (negsuc n) z den g (common_divisor-same (suc n ∷ den ∷ []) g (IsDivisor-two (suc n) den g is)) (e ∙ sym (signed_quotient n g (positive_gcd (suc n) den g p is)));
+  value = value_is (negsuc n) z den g (common_divisor-same (den ∷ suc n ∷ []) g (IsDivisor-two den (suc n) g (IsGcd-swap (suc n) den g is))) (e ∙ sym (signed_quotient n g (positive_gcd (suc n) den g p is)));
 }
 
 -- the same, as the code's casts have it

@@ -1,6 +1,7 @@
 -- Fractions: equality, lowest terms and order, by products crosswise (any text on arithmetic).
 use Rattle.std.specs.Prelude.{◌≡◌, ℕ, ℤ, ◌<◌, ◌^◌, ◌*ℤ◌, ◌/◌, int_div, pos, neg_ℤ, unsigned_abs, if◌then◌else◌, [], ◌∷◌}
 use Rattle.gx_num.specs.Number.{common_divisor, IsLowest}
+use Rattle.gx_num.specs.Ray.{RayParameter}
 use Rattle.std.specs.Ordering.{int_cmp, is_lt, is_gt}
 use Rattle.std.specs.declared.cmp.Ordering.{Ordering}
 
@@ -16,7 +17,7 @@ IsEqual a b = a.num *ℤ pos b.den ≡ b.num *ℤ pos a.den
 -- num/den in lowest terms
 abbrev pub lowest : ℤ → ℕ → Fraction
 lowest num den =
-    let divisor = common_divisor (unsigned_abs num ∷ den ∷ []) in record { num = int_div num (pos divisor); den = den / divisor }
+    let divisor = common_divisor (den ∷ unsigned_abs num ∷ []) in record { num = int_div num (pos divisor); den = den / divisor }
 
 abbrev pub opposite : Fraction → Fraction
 opposite f = record { num = neg_ℤ f.num; den = f.den }
@@ -30,6 +31,10 @@ greater a b = if is_lt (compare a b) then b else a
 
 abbrev pub smaller : Fraction → Fraction → Fraction
 smaller a b = if is_gt (compare a b) then b else a
+
+-- a fraction that isn't negative, as a parameter of a ray
+abbrev pub parameter_of : Fraction → RayParameter
+parameter_of f = record { num = unsigned_abs f.num; den = f.den }
 
 -- what every fraction here is: in lowest terms, with numbers that fit
 pub record IsNormal (f : Fraction) : Type 0 where

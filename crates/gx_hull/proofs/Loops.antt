@@ -1,6 +1,6 @@
 -- Loops that keep each element once, at its first place.
-use Rattle.std.proofs.Common.{◌≡◌, ℕ, ◌+◌, ◌-◌, ◌<◌, Bool, true, false, cond, Option, List, [], ◌∷◌, ◌++◌, map, filter_map, length, take, drop, get_or, reverse, refl, sym, ap, ◌∙◌, add-one, length-drop}
-use Rattle.std.specs.List.{list_any, cons_option}
+use Rattle.std.proofs.Common.{◌≡◌, ℕ, ◌+◌, ◌-◌, ◌<◌, ◌&&◌, Bool, true, false, cond, Option, List, [], ◌∷◌, ◌++◌, map, filter_map, length, take, drop, get_or, reverse, refl, sym, ap, ◌∙◌, add-one, length-drop}
+use Rattle.std.specs.List.{list_all, list_any}
 use Rattle.std.proofs.Math.Seq.{drop-cons, take-length}
 use Rattle.std.proofs.lemmas.List.{append_assoc, reverse-append}
 use Rattle.std.proofs.lemmas.List.Sorted.{list_any-IsPermutation, IsPermutation-reverse}
@@ -25,3 +25,10 @@ module _ {X : Type 0} (same : X → X → Bool) where
   pub kept_now : (kept now : List X) (x : X) (xs : List X) → now ≡ kept ++ x ∷ [] → list_any (same x) kept ≡ false → now ++ distinct_by same (reverse now) xs ≡ kept ++ distinct_by same (reverse kept) (x ∷ xs)
   kept_now kept now x xs is e =
       ap (λ ys. ys ++ distinct_by same (reverse ys) xs) is ∙ ap (λ seen. (kept ++ x ∷ []) ++ distinct_by same seen xs) (reverse-append kept (x ∷ [])) ∙ append_assoc kept (x ∷ []) (distinct_by same (x ∷ reverse kept) xs) ∙ ap (λ ys. kept ++ ys) (sym (first_time kept x xs e))
+
+-- ---- a test of all elements, one after another
+pub list_all-hit : {X : Type 0} (test : X → Bool) (x : X) (rest xs : List X) → xs ≡ x ∷ rest → test x ≡ true → list_all test rest ≡ list_all test xs
+list_all-hit test x rest xs e t = sym (ap (list_all test) e ∙ ap (λ (b : Bool). b && list_all test rest) t)
+
+pub list_all-miss : {X : Type 0} (test : X → Bool) (x : X) (rest xs : List X) → xs ≡ x ∷ rest → test x ≡ false → false ≡ list_all test xs
+list_all-miss test x rest xs e t = sym (ap (list_all test) e ∙ ap (λ (b : Bool). b && list_all test rest) t)

@@ -9,7 +9,7 @@ use Rattle.gx_hull.specs.declared.fault.HullFault.TheVariants.{Vertices, Flat, N
 
 -- what the vertices of a hull keep
 pub record IsVertices (vertices : List V3) : Type 0 where
-  pub most : length vertices ≤ 32
+  pub few : length vertices ≤ 32
   pub within : All (IsWithin reach) vertices
   pub once : distinct vertices ≡ vertices
   pub solid : are_coplanar vertices ≡ false

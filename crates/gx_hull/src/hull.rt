@@ -7,8 +7,7 @@ ghost use Rattle.gx_convex.specs.Extent.{extent_of};
 ghost use Rattle.gx_hull.specs.Hull.{hull_of, IsVertices, IsHullCause};
 
 use crate::HullFault;
-use crate::faces::{faces, are_coplanar};
-use crate::planes::planes;
+use crate::faces::{are_coplanar, faces};
 use crate::points::{distinct, extent};
 use gx_num::{Extent, NoMemory, V3};
 use gx_plane::Plane;
@@ -47,11 +46,10 @@ impl Hull {
         ensures err { IfErr result (IsHullCause (hull_of points.items)) }
     {
         let vertices = distinct(alloc, &points)?;
-        let planes = planes(alloc, &vertices)?;
-        if are_coplanar(&vertices, &planes) {
+        if are_coplanar(&vertices) {
             return Err(HullFault::Flat);
         }
-        let faces = faces(alloc, &vertices, &planes)?;
+        let faces = faces(alloc, &vertices)?;
         let extent = extent(&vertices);
         Ok(Hull {
             vertices,

@@ -1,9 +1,7 @@
 -- Calls one after the other: what the callers of reads and writes need.
-use Rattle.std.proofs.Common.{◌≡◌, ℕ, ◌+◌, ◌<◌, List, [], ◌∷◌, ◌++◌, length, get_or, take, drop, Option, None, Some, Result, Ok, Err, refl, sym, ap, ◌∙◌, subst, append_assoc, append-nil, take-append-drop}
-use Rattle.std.proofs.lemmas.List.{take_more}
-use Rattle.std.proofs.lemmas.Grind.{flat_map-append}
-use Rattle.std.specs.List.{flat_map}
-use Rattle.gx_io.specs.Bytes.{with_after, with_before, AppendsBut, AppendsFront, Writes}
+use Rattle.std.proofs.Common.{◌≡◌, ℕ, ◌-◌, ◌^◌, List, [], ◌++◌, Option, None, Some, Result, Ok, Err, inl, inr, refl, sym, ap, ◌∙◌, append_assoc, append-nil, arith}
+use Rattle.std.proofs.lemmas.Bool.{cases_lt}
+use Rattle.gx_io.specs.Bytes.{with_after, with_before, AppendsBut, AppendsFront, Writes, Rose, next_fault}
 
 -- two appends in a row
 pub with_after-twice : (told : Option (List ℕ)) (a b : List ℕ) → with_after (with_after told a) b ≡ with_after told (a ++ b)
@@ -57,34 +55,6 @@ pub ruleset joined = (with_after-twice, with_after-nothing, front-of_first, fron
 -- what a function that reads in turn is proved with
 pub ruleset read_on = (with_before-twice, with_before-nothing)
 
--- one part more
-pub parts-more : {X : Type 0} (f : X → List ℕ) (xs : List X) (i : ℕ) (d : X) → i < length xs
-    → flat_map f (take i xs) ++ f (get_or xs i d) ≡ flat_map f (take (i + 1) xs)
-parts-more f xs i d h =
-    ap (λ l. flat_map f (take i xs) ++ l) (sym (append-nil (f (get_or xs i d))))
-    ∙ sym (flat_map-append f (take i xs) (get_or xs i d ∷ []))
-    ∙ ap (flat_map f) (sym (take_more xs i d h))
-
--- what stopped in one part stopped in them all
-pub front-part : {X : Type 0} (f : X → List ℕ) (old new : Option (List ℕ)) (xs : List X) (i : ℕ) (d : X) → i < length xs
-    → AppendsFront old new (flat_map f (take i xs) ++ f (get_or xs i d)) → AppendsFront old new (flat_map f xs)
-front-part f old new xs i d h stopped =
-    let done = flat_map f (take (i + 1) xs) in
-    let rest = flat_map f (drop (i + 1) xs) in
-    let whole : done ++ rest ≡ flat_map f xs =
-    sym (flat_map-append f (take (i + 1) xs) (drop (i + 1) xs)) ∙ ap (flat_map f) (take-append-drop (i + 1) xs) in
-    subst (AppendsFront old new) whole (front-of_first old new done rest (subst (AppendsFront old new) (parts-more f xs i d h) stopped))
-
--- a loop that writes each element: one more is written
-pub each-more : {X : Type 0} (f : X → List ℕ) (old mid new : Option (List ℕ)) (xs : List X) (i : ℕ) (d : X) → i < length xs
-    → mid ≡ with_after old (flat_map f (take i xs)) → new ≡ with_after mid (f (get_or xs i d)) → new ≡ with_after old (flat_map f (take (i + 1) xs))
-each-more f old mid new xs i d h before after =
-    let x = f (get_or xs i d) in
-    after ∙ ap (λ t. with_after t x) before ∙ with_after-twice old (flat_map f (take i xs)) x ∙ ap (with_after old) (parts-more f xs i d h)
-
--- such a loop stopped
-pub each-stopped : {X : Type 0} (f : X → List ℕ) (old mid new : Option (List ℕ)) (xs : List X) (i : ℕ) (d : X) → i < length xs
-    → mid ≡ with_after old (flat_map f (take i xs)) → AppendsFront mid new (f (get_or xs i d)) → AppendsFront old new (flat_map f xs)
-each-stopped f old mid new xs i d h before stopped =
-    let x = f (get_or xs i d) in
-    front-part f old new xs i d h (front-of_second old new (flat_map f (take i xs)) x (subst (λ t. AppendsFront t new x) before stopped))
+-- a fault more is a rise
+pub rose-next_fault : (before : ℕ) → Rose before (next_fault before)
+rose-next_fault before = elim (cases_lt before (2 ^ 64 - 1)) [ inl h ↦ inl (omega arith) | inr h ↦ inr (omega arith) ]

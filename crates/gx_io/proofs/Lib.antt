@@ -1,2 +1,3 @@
-pub mod Joined
 mod Gathered
+pub mod Joined
+mod Places

@@ -1,5 +1,7 @@
 -- What the calls of a source or a sink do to its bytes and to its count of faults.
-use Rattle.std.specs.Prelude.{◌≡◌, ◌⊎◌, ℕ, ◌-◌, ◌^◌, ◌<◌, ◌≤◌, List, ◌++◌, Option, None, Some, Result, OnOk, OnErr}
+use Rattle.std.specs.Prelude.{◌≡◌, ◌⊎◌, ℕ, ◌+◌, ◌-◌, ◌^◌, ◌<◌, min, List, ◌++◌, take, length, Option, None, Some, Result, OnOk, OnErr, MatchResult}
+use Rattle.std.specs.Option.{option_map}
+use Rattle.std.specs.Io.KnownBytes.{Appends}
 
 -- the bytes that are told, and then these
 unfoldable pub with_after : Option (List ℕ) → List ℕ → Option (List ℕ)
@@ -24,12 +26,28 @@ pub record Writes {T E : Type 0} (old new : Option (List ℕ)) (whole : List ℕ
   pub all : OnOk result (new ≡ with_after old whole)
   pub front : OnErr result (AppendsFront old new whole)
 
+-- how many bytes are told
+abbrev pub told_length : Option (List ℕ) → ℕ
+told_length None = 0
+told_length (Some told) = length told
+
+-- what was told stands at the front of what is
+abbrev pub Grows : Option (List ℕ) → Option (List ℕ) → Type 0
+Grows old new = option_map (take (told_length old)) new ≡ old
+
+-- a writer of std holds what was taken of the piece; at an error, a front of it
+abbrev pub PassesOn : {E : Type 0} → Option (List ℕ) → Option (List ℕ) → List ℕ → Result ℕ E → Type 0
+PassesOn old new piece result = MatchResult result (λ n. Appends old new (take n piece)) (λ _. (n : ℕ) × Appends old new (take n piece))
+
+-- the count with one fault more; it stands still at the end of its type
+abbrev pub next_fault : ℕ → ℕ
+next_fault faults = min (faults + 1) (2 ^ 64 - 1)
+
+-- an error comes with exactly one fault more, and without an error there is none
+pub record HasCause {T E : Type 0} (before now : ℕ) (result : Result T E) : Type 0 where
+  pub kept : OnOk result (now ≡ before)
+  pub rose : OnErr result (now ≡ next_fault before)
+
 -- the count rose, or stands at the end of its type
 abbrev pub Rose : ℕ → ℕ → Type 0
 Rose before now = (before < now) ⊎ (now ≡ 2 ^ 64 - 1)
-
--- an error comes only with a fault that was counted, and nothing else is counted
-pub record HasCause {T E : Type 0} (before now : ℕ) (result : Result T E) : Type 0 where
-  pub kept : OnOk result (now ≡ before)
-  pub rose : OnErr result (Rose before now)
-  pub never_falls : before ≤ now

@@ -1,6 +1,7 @@
 -- A source and a sink in memory.
 use Rattle.std.specs.Prelude.{◌≡◌, ℕ, ◌+◌, ◌-◌, ◌^◌, min, List, ◌++◌, take, drop, length, Bool, nat_lt, ◌&&◌, ◌||◌, ◌==◌, ◌↔◌, Result, IsErr, IsTrue, IfOk, OnErr}
 use Rattle.std.specs.List.{list_any}
+use Rattle.gx_io.specs.Bytes.{next_fault}
 
 -- What a source in memory has left, gives in one read at most, and fails at; the calls that were numbered; the faults.
 pub record SourceState : Type 0 where
@@ -27,9 +28,9 @@ fails_next fails calls = nat_lt calls (2 ^ 32 - 1) && list_any (λ n. n == calls
 abbrev pub next_call : ℕ → ℕ
 next_call calls = min (calls + 1) (2 ^ 32 - 1)
 
--- the faults with one more
-abbrev pub next_fault : ℕ → ℕ
-next_fault faults = min (faults + 1) (2 ^ 64 - 1)
+-- a source after a read that failed
+abbrev pub failed_read : SourceState → SourceState
+failed_read source = record source { calls = next_call source.calls; faults = next_fault source.faults }
 
 -- one read: exactly the listed calls fail
 pub record Reads {E : Type 0} (old new : SourceState) (before after : List ℕ) (result : Result ℕ E) : Type 0 where
@@ -38,7 +39,7 @@ pub record Reads {E : Type 0} (old new : SourceState) (before after : List ℕ) 
   pub given : IfOk result (λ n. after ≡ take n old.left ++ drop n before)
   pub kept : OnErr result (after ≡ before)
   pub ok : IfOk result (λ n. new ≡ record old { left = drop n old.left; calls = next_call old.calls })
-  pub err : OnErr result (new ≡ record old { calls = next_call old.calls; faults = next_fault old.faults })
+  pub err : OnErr result (new ≡ failed_read old)
 
 -- how many bytes of so many a write takes
 abbrev pub taken : SinkState → ℕ → ℕ

@@ -1,7 +1,7 @@
 ghost use Rattle.std.specs.Prelude.{◌≡◌, ◌≤◌, ◌<◌, ℕ, length, take, drop, Some, IfOk, OnErr};
 ghost use Rattle.std.specs.Io.KnownBytes.{IsAtEnd};
 ghost use Rattle.gx_io.specs.Bytes.{HasCause, with_before};
-ghost use Rattle.gx_io.specs.Memory.{SourceState, Reads};
+ghost use Rattle.gx_io.specs.Memory.{SourceState, Reads, failed_read};
 
 use crate::calls::fails_next;
 use crate::{Failed, Source};
@@ -53,6 +53,8 @@ impl Source for MemSource {
 
     ghost faults = { λ s. s.faults };
 
+    ghost fails = { λ old new. new ≡ failed_read old };
+
     #[tactic(auto, unfolding(crate::specs::Bytes::with_before))]
     fn read(&mut self, buf: &mut [u8]) -> Result<usize, Failed>
         requires { 0 < length buf.old }
@@ -60,6 +62,7 @@ impl Source for MemSource {
         ensures bytes { IfOk result (λ n. Some self.old.left ≡ with_before (take n buf.new) (Some self.new.left)) }
         ensures end { IfOk result (λ n. n ≡ 0 → IsAtEnd (Some self.new.left)) }
         ensures err { OnErr result (Some self.new.left ≡ Some self.old.left) }
+        ensures fails { OnErr result (self.new ≡ failed_read self.old) }
         ensures cause { HasCause self.old.faults self.new.faults result }
         ensures exact { Reads self.old self.new buf.old buf.new result }
     {

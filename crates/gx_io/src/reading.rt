@@ -1,8 +1,9 @@
 ghost use Rattle.std.specs.Prelude.{◌≡◌, ◌<◌, ◌≤◌, ℕ, List, length, vec_len, IfOk, OnOk, OnErr, IsErrOf};
 ghost use Rattle.std.specs.Io.KnownBytes.{IsAtEnd};
-ghost use Rattle.gx_io.specs.Bytes.{Rose, with_before};
+ghost use Rattle.gx_io.specs.Bytes.{next_fault, with_before};
 ghost use Rattle.gx_io.specs.declared.reading.ReadError.TheVariants.{NoMemory as OutOfMemory, Failed as Faulted};
 
+use crate::buffer::PIECE;
 use crate::{Failed, Source};
 use std::alloc::{AllocError, Global};
 use thiserror::Error;
@@ -32,9 +33,6 @@ impl From<AllocError> for ReadError {
     }
 }
 
-// The most that one read is asked for.
-const PIECE: usize = 65536;
-
 /// Reads until the source answers its end, or fails, or has given so many bytes.
 #[tactic(auto, using(crate::proofs::Joined::read_on))]
 pub fn read_up_to<S: Source>(
@@ -45,11 +43,13 @@ pub fn read_up_to<S: Source>(
     ensures bytes { IfOk result (λ text. S.left source.old ≡ with_before text.items (S.left source.new)) }
     ensures bound { IfOk result (λ text. vec_len text ≤ limit) }
     ensures end { IfOk result (λ text. vec_len text < limit → IsAtEnd (S.left source.new)) }
-    ensures kept { OnOk result (S.faults source.new ≡ S.faults source.old) }
-    ensures failed { IsErrOf result ReadError.Failed → Rose (S.faults source.old) (S.faults source.new) }
-    ensures no_memory { IsErrOf result ReadError.NoMemory → S.faults source.new ≡ S.faults source.old }
-    ensures never_falls { S.faults source.old ≤ S.faults source.new }
     ensures err { OnErr result ((bytes : List ℕ) × (length bytes ≤ limit) × (S.left source.old ≡ with_before bytes (S.left source.new))) }
+
+    // Exactly one read has failed at `Failed`, and it is the last; else none has.
+    ensures kept { OnOk result (S.faults source.new ≡ S.faults source.old) }
+    ensures failed { IsErrOf result ReadError.Failed → S.faults source.new ≡ next_fault (S.faults source.old) }
+    ensures last { IsErrOf result ReadError.Failed → (before : S) × (S.faults before ≡ S.faults source.old) × S.fails before source.new }
+    ensures no_memory { IsErrOf result ReadError.NoMemory → S.faults source.new ≡ S.faults source.old }
 {
     let mut space = vec![in alloc; 0u8; limit.min(PIECE)]?;
     let buffer = space.as_mut_slice();

@@ -12,6 +12,9 @@ pub trait Source {
     /// How often a read has failed. It stays at the end of its type.
     ghost faults: { Self → ℕ };
 
+    /// A read that fails takes it from the one to the other.
+    ghost fails: { Self → Self → Type 0 };
+
     /// Puts the next bytes at the front of the buffer. `Ok(0)` is the end.
     fn read(&mut self, buf: &mut [u8]) -> Result<usize, Failed>
         requires { 0 < length buf.old }
@@ -19,5 +22,6 @@ pub trait Source {
         ensures bytes { IfOk result (λ n. left self.old ≡ with_before (take n buf.new) (left self.new)) }
         ensures end { IfOk result (λ n. n ≡ 0 → IsAtEnd (left self.new)) }
         ensures err { OnErr result (left self.new ≡ left self.old) }
+        ensures fails { OnErr result (fails self.old self.new) }
         ensures cause { HasCause (faults self.old) (faults self.new) result };
 }

@@ -1,26 +1,20 @@
-ghost use Rattle.std.specs.Prelude.{◌≡◌, ℕ, None};
+ghost use Rattle.std.specs.Prelude.{◌≡◌, ◌<◌, ◌≤◌, length, None, IfOk};
+ghost use Rattle.gx_io.specs.Bytes.{HasCause, PassesOn};
 
 use crate::{Failed, Sink};
 use std::io::{ErrorKind, Write};
-use std::marker::Model;
 
-/// A writer of std as a sink, which is flushed after each write. It tells nothing of the bytes, and contracts see it as its
-/// count of faults.
+/// A writer of std as a sink, which is flushed after each write. As a sink it tells nothing of the bytes; what std's writer
+/// tells, its `write` passes on: at an error the writer may hold a front of the piece, where the flush failed.
 #[derive(Drop)]
 pub struct StdSink<W: Write + Drop> {
     inner: W,
     faults: u64,
 }
 
-impl<W: Write + Drop> Model for StdSink<W> {
-    ghost Value = { ℕ };
-
-    ghost view = { λ s. s.faults };
-}
-
 impl<W: Write + Drop> StdSink<W> {
     pub fn new(inner: W) -> StdSink<W>
-        ensures { result ≡ 0 }
+        ensures { result ≡ record { inner = inner; faults = 0 } }
     {
         StdSink { inner, faults: 0 }
     }
@@ -29,10 +23,16 @@ impl<W: Write + Drop> StdSink<W> {
 impl<W: Write + Drop> Sink for StdSink<W> {
     ghost written = { λ _. None };
 
-    ghost faults = { λ s. s };
+    ghost faults = { λ s. s.faults };
 
     #[tactic(auto, unfolding(crate::specs::Bytes::with_after))]
-    fn write(&mut self, piece: &[u8]) -> Result<usize, Failed> {
+    fn write(&mut self, piece: &[u8]) -> Result<usize, Failed>
+        requires { 0 < length piece.now }
+        ensures some { IfOk result (λ n. 0 < n) }
+        ensures bound { IfOk result (λ n. n ≤ length piece.now) }
+        ensures cause { HasCause self.old.faults self.new.faults result }
+        ensures passes { PassesOn (W.contents self.old.inner) (W.contents self.new.inner) piece.now result }
+    {
         let mut taken = 0;
         // An interruption is tried again, at most 64 times; what was written is only flushed again.
         for _ in 0..65 {

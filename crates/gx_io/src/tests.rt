@@ -1,3 +1,5 @@
+ghost use Rattle.std.specs.Prelude.{◌≡◌, ◌++◌};
+
 use super::*;
 use std::io;
 use std::io::{Error, ErrorKind, Read, Write};
@@ -105,15 +107,10 @@ fn whole_texts_are_written_and_read(rt: HostRuntime) -> Result<(), Fail> {
     let long = [b'x'; 700];
     let mut sink = MemSink::new(alloc, 2000, 300, Vec::new(alloc))?;
     write_all(&mut sink, &long)?;
-    write_parts(
-        &mut sink,
-        &[
-            b"a".as_slice(),
-            b"".as_slice(),
-            long.as_slice(),
-            b"z".as_slice(),
-        ],
-    )?;
+    write_all(&mut sink, b"a")?;
+    write_all(&mut sink, b"")?;
+    write_all(&mut sink, &long)?;
+    write_all(&mut sink, b"z")?;
     assert_eq!(rt; sink.written().len(), 1402);
     assert_eq!(rt; sink.written().iter().filter(|b| **b == b'x').count(), 1400);
     assert_eq!(rt; sink.written().last(), Some(&b'z'));
@@ -130,15 +127,53 @@ fn whole_texts_are_written_and_read(rt: HostRuntime) -> Result<(), Fail> {
     Ok(())
 }
 
+// Two texts, one behind the other.
+#[derive(Drop)]
+struct Two {
+    first: Vec<u8>,
+    second: Vec<u8>,
+}
+
+impl Print for Two {
+    ghost prints = { λ two whole. whole ≡ two.first.items ++ two.second.items };
+
+    #[tactic(auto, using(crate::proofs::Joined::joined))]
+    fn print<K: Sink>(&self, sink: &mut K) -> Result<(), Failed> {
+        write_all(sink, &self.first)?;
+        write_all(sink, &self.second)
+    }
+}
+
 #[test]
-fn a_line_of_several_parts_is_one_write(rt: HostRuntime) -> Result<(), Fail> {
+fn what_is_printed_is_handed_on_in_large_pieces(rt: HostRuntime) -> Result<(), Fail> {
     let alloc = rt.alloc();
-    let mut sink = MemSink::new(alloc, 100, 100, [2].to_vec(alloc)?)?;
-    let line = [b"one ".as_slice(), b"two".as_slice(), b"\n".as_slice()];
-    assert_eq!(rt; write_parts(&mut sink, &line), Ok(()));
-    assert_eq!(rt; write_parts(&mut sink, &line), Err(Failed));
-    assert_eq!(rt; write_parts(&mut sink, &[]), Ok(()));
-    assert_eq!(rt; sink.written(), b"one two\n".as_slice());
+    // the lengths of two texts, the write that fails, the answer, and how much the sink has
+    let cases = [
+        (0, 0, 1, Ok(()), 0),
+        (40_000, 20_000, 2, Ok(()), 60_000),
+        (100_000, 50_000, 4, Ok(()), 150_000),
+        (100_000, 50_000, 3, Err(Failed), 131_072),
+        (65_536, 65_536, 2, Err(Failed), 65_536),
+        (0, 65_537, 2, Err(Failed), 65_536),
+    ];
+    for (first, second, fails, answer, written) in cases {
+        let mut sink = MemSink::new(alloc, 200_000, 100_000, [fails].to_vec(alloc)?)?;
+        let two = Two {
+            first: vec![in alloc; b'x'; first]?,
+            second: vec![in alloc; b'y'; second]?,
+        };
+        let buffer = Buffer::new(alloc)?;
+        assert_eq!(rt;
+            print_buffered(buffer, &mut sink, &two),
+            answer,
+            "{first} {second}"
+        );
+        assert_eq!(rt; sink.written().len(), written, "{first} {second}");
+        assert_eq!(rt;
+            sink.written().iter().filter(|b| **b == b'x').count(),
+            first.min(written)
+        );
+    }
     Ok(())
 }
 

@@ -1,23 +1,25 @@
 -- A world by the faces of its solid: it is bounded, and its points are those of the faces.
-use Rattle.std.proofs.Common.{◌≡◌, ℕ, ◌+◌, ◌*◌, ◌≤◌, ℤ, pos, negsuc, ◌*ℤ◌, ◌<ℤ◌, unsigned_abs, List, [], ◌∷◌, Option, cond, Some, None, sym, ap, ◌∙◌, arith}
-use Rattle.std.specs.List.{AllByRecursion}
+use Rattle.std.proofs.Common.{◌≡◌, ℕ, ◌+◌, ◌*◌, ◌≤◌, ℤ, pos, negsuc, ◌*ℤ◌, ◌<ℤ◌, unsigned_abs, List, Option, Some, None, sym, ◌∙◌, arith}
 use Rattle.std.proofs.lemmas.Int.{ints, unsigned_abs-mul}
 use Rattle.std.proofs.lemmas.Nat.{mul-le}
 use Rattle.gx_num.specs.declared.vector.V3.{V3}
 use Rattle.gx_num.specs.declared.ray.Ray.{Ray}
-use Rattle.gx_num.specs.Space.{HalfSpace}
-use Rattle.gx_num.specs.Ray.{RayParameter, HasDirection, point_of_ray, IsPositive, IsBelow}
+use Rattle.gx_num.specs.Space.{HalfSpace, is_inside}
+use Rattle.gx_num.specs.Ray.{RayParameter, HasDirection, point_of_ray, IsPositive}
 use Rattle.gx_convex.specs.Points.{distinct}
-use Rattle.gx_shapes.specs.Shape.{IsShape, solid_of, vertices_of}
+use Rattle.gx_shapes.specs.Shape.{IsShape, vertices_of}
 use Rattle.gx_num.specs.declared.extent.Extent.{Extent}
 use Rattle.gx_convex.specs.Faces.{faces_of}
 use Rattle.gx_convex.specs.Extent.{extent_of}
 use Rattle.gx_convex.specs.Laws.{AreTheSolid, IsBetween}
 use Rattle.gx_solids.proofs.Faces.{are_the_solid}
 use Rattle.gx_path.specs.Report.{Row, IsReport}
-use Rattle.gx_tree.specs.World.{World, place_on}
-use Rattle.gx_navigator.specs.Bounded.{IsBounded, place_in}
-use Rattle.gx_navigator.proofs.Reports.{report_in}
+use Rattle.gx_tree.specs.World.{World, solid_of, path_along}
+use Rattle.gx_clip.specs.declared.span.Span.{Span}
+use Rattle.gx_clip.specs.Clip.{IsBounded, IsClip}
+use Rattle.gx_clip.proofs.Clips.{clip_exists}
+use Rattle.gx_navigator.specs.Rows.{rows_of}
+use Rattle.gx_navigator.proofs.Reports.{IsReport-clip}
 
 times_reach : (z : ℤ) (n reach : ℕ) → unsigned_abs z ≤ reach → unsigned_abs (z *ℤ pos n) ≤ reach * n
 times_reach z n reach h = rw (unsigned_abs-mul z (pos n)) (mul-le (unsigned_abs z) n reach n h (omega arith))
@@ -47,37 +49,31 @@ faces_bounded solid vertices are = record {
       };
 }
 
--- equal places have equal reports
-constant_same : (p q : RayParameter → Option (List ℕ)) → ((t : RayParameter) → IsPositive t → p t ≡ q t) → (rows : List Row)
-    → AllByRecursion (λ row. (t : RayParameter) → IsPositive t → IsBelow row.from t → IsBelow t row.to → p t ≡ Some row.path) rows
-    → AllByRecursion (λ row. (t : RayParameter) → IsPositive t → IsBelow row.from t → IsBelow t row.to → q t ≡ Some row.path) rows
-constant_same p q same [] all = tt
-constant_same p q same (row ∷ rows) all = (λ t h from to. sym (same t h) ∙ all.0 t h from to, constant_same p q same rows all.1)
-
-pub IsReport-same : (p q : RayParameter → Option (List ℕ)) (rows : List Row) → ((t : RayParameter) → IsPositive t → p t ≡ q t) → IsReport p rows → IsReport q rows
-IsReport-same p q rows same report = record {
-  reduced = report.reduced;
-  ordered = report.ordered;
-  constant = constant_same p q same rows report.constant;
-  maximal = report.maximal;
-  complete = λ t path h e. report.complete t path h (same t h ∙ e);
+-- where two solids have the same points inside, a clip by one is a clip by the other
+IsClip-same : (solid other : List HalfSpace) (ray : Ray) → ((t : RayParameter) → IsPositive t → is_inside solid (point_of_ray ray t) ≡ is_inside other (point_of_ray ray t))
+    → (clip : Option Span) → IsClip other ray clip → IsClip solid ray clip
+IsClip-same solid other ray same None is = λ t h. same t h ∙ is t h
+IsClip-same solid other ray same (Some span) is = record {
+  from_lowest = is.from_lowest;
+  to_lowest = is.to_lowest;
+  ordered = is.ordered;
+  inside = λ t h. (λ e. (is.inside t h).0 (sym (same t h) ∙ e), λ b. same t h ∙ (is.inside t h).1 b);
 }
 
 module _ (world : World) (ray : Ray) (shape : IsShape world.solid) where
   abbrev pub world_faces : List HalfSpace
   world_faces = faces_of (distinct (vertices_of world.solid.kind world.solid.values))
 
-  are : AreTheSolid (solid_of world.solid.kind world.solid.values) (distinct (vertices_of world.solid.kind world.solid.values))
+  are : AreTheSolid (solid_of world) (distinct (vertices_of world.solid.kind world.solid.values))
   are = are_the_solid world.solid.kind world.solid.values shape.accepted
 
   pub world_bounded : IsBounded world_faces
-  world_bounded = faces_bounded (solid_of world.solid.kind world.solid.values) (distinct (vertices_of world.solid.kind world.solid.values)) are
+  world_bounded = faces_bounded (solid_of world) (distinct (vertices_of world.solid.kind world.solid.values)) are
 
-  same_place : (t : RayParameter) → IsPositive t → place_in world_faces ray t ≡ place_on world ray t
-  same_place t h = ap (λ b. cond b (Some []) None) (sym (are.same_inside (point_of_ray ray t) (omega (arith, ints, h.1))))
+  pub world_report : (clip : Option Span) → IsClip world_faces ray clip → IsReport (path_along world ray) (rows_of clip)
+  world_report clip is =
+      IsReport-clip (solid_of world) ray clip
+      (IsClip-same (solid_of world) world_faces ray (λ t h. are.same_inside (point_of_ray ray t) (omega (arith, ints, h.1))) clip is)
 
-  pub world_report : (rows : List Row) → IsReport (place_in world_faces ray) rows → IsReport (place_on world ray) rows
-  world_report rows report = IsReport-same (place_in world_faces ray) (place_on world ray) rows same_place report
-
-  pub report_of : HasDirection ray → (rows : List Row) × IsReport (place_on world ray) rows
-  report_of moves = let found = report_in world_faces ray world_bounded moves in (found.0, world_report found.0 found.1)
+  pub report_of : HasDirection ray → (rows : List Row) × IsReport (path_along world ray) rows
+  report_of moves = let clip = clip_exists world_faces ray world_bounded moves in (rows_of clip.0, world_report clip.0 clip.1)

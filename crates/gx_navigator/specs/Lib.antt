@@ -1,4 +1,2 @@
-pub mod Bounded
-pub mod Interval
 pub mod Laws
-pub mod Limit
+pub mod Rows

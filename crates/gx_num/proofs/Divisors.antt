@@ -1,11 +1,11 @@
 -- The greatest number that divides a list of numbers: every number that divides them all divides it.
-use Rattle.std.proofs.Common.{◌≡◌, ◌⊎◌, inl, inr, ℕ, zero, suc, ◌≤◌, ◌<◌, ◌%◌, Bool, true, false, cond, ◌&&◌, ◌==◌, List, [], ◌∷◌, max, refl, sym, ap, ◌∙◌, subst, arith, eqb-true, true≢false}
+use Rattle.std.proofs.Common.{◌≡◌, ◌⊎◌, inl, inr, ℕ, zero, suc, ◌≤◌, ◌<◌, ◌%◌, Bool, true, false, cond, ◌&&◌, ◌==◌, List, [], ◌∷◌, refl, sym, ap, ◌∙◌, subst, arith, eqb-true, true≢false}
 use Rattle.std.specs.Int.{IsGcd, ◌∣◌}
 use Rattle.std.specs.List.{list_all, AllByRecursion}
 use Rattle.std.proofs.Math.Nat.{one-dvd, eq-zero_of_zero-dvd}
 use Rattle.std.proofs.lemmas.Nat.{mod_below}
 use Rattle.std.proofs.lemmas.Nat.Gcd.{le_of_dvd, dvd_trans, dvd-zero, dvd_of_mod-eq-zero, mod-eq-zero_of_dvd, IsGcd-from_zero, IsGcd-from_mod}
-use Rattle.gx_num.specs.Number.{greatest_up_to, largest, common_divisor}
+use Rattle.gx_num.specs.Number.{greatest_up_to, first_nonzero, common_divisor}
 
 -- ---- the greatest number that passes a test
 passes_step : (test : ℕ → Bool) (n g : ℕ) (b : Bool) → test (suc n) ≡ b → (0 < g → test g ≡ true) → 0 < cond b (suc n) g → test (cond b (suc n) g) ≡ true
@@ -60,28 +60,25 @@ one_divides : (ns : List ℕ) → DividesAll 1 ns
 one_divides [] = tt
 one_divides (n ∷ ns) = (one-dvd n, one_divides ns)
 
-all_divide_zeros : (d : ℕ) (ns : List ℕ) → largest ns ≡ 0 → DividesAll d ns
+all_divide_zeros : (d : ℕ) (ns : List ℕ) → first_nonzero ns ≡ 0 → DividesAll d ns
 all_divide_zeros d [] e = tt
-all_divide_zeros d (n ∷ ns) e =
-    let none : n ≡ 0 = omega arith in
-    (rw none (dvd-zero d), all_divide_zeros d ns (omega arith))
+all_divide_zeros d (zero ∷ ns) e = (dvd-zero d, all_divide_zeros d ns e)
+all_divide_zeros d (suc n ∷ ns) e = absurd (omega arith)
 
-zero_divides_zeros : (ns : List ℕ) → DividesAll 0 ns → largest ns ≡ 0
+zero_divides_zeros : (ns : List ℕ) → DividesAll 0 ns → first_nonzero ns ≡ 0
 zero_divides_zeros [] h = refl
-zero_divides_zeros (n ∷ ns) h = omega (arith, eq-zero_of_zero-dvd h.0, zero_divides_zeros ns h.1)
+zero_divides_zeros (zero ∷ ns) h = zero_divides_zeros ns h.1
+zero_divides_zeros (suc n ∷ ns) h = absurd (omega (arith, eq-zero_of_zero-dvd h.0))
+
+-- a divisor is at most the first that isn't 0
+DividesAll-le : (d : ℕ) (ns : List ℕ) → DividesAll d ns → 0 < first_nonzero ns → d ≤ first_nonzero ns
+DividesAll-le d [] h lt = absurd (omega arith)
+DividesAll-le d (zero ∷ ns) h lt = DividesAll-le d ns h.1 lt
+DividesAll-le d (suc n ∷ ns) h lt = le_of_dvd lt h.0
 
 pub zero_or_pos : (n : ℕ) → (n ≡ 0) ⊎ (0 < n)
 zero_or_pos zero = inl refl
 zero_or_pos (suc n) = inr (omega arith)
-
--- a divisor is at most the largest
-DividesAll-le : (d : ℕ) (ns : List ℕ) → DividesAll d ns → 0 < largest ns → d ≤ largest ns
-DividesAll-le d [] h lt = absurd (omega arith)
-DividesAll-le d (n ∷ ns) h lt = go (DividesAll-le d ns h.1) (zero_or_pos n)
-  where
-    go : (0 < largest ns → d ≤ largest ns) → (n ≡ 0) ⊎ (0 < n) → d ≤ max n (largest ns)
-    go rest (inl e) = let le = rest (omega arith) in omega arith
-    go rest (inr k) = let le = le_of_dvd k h.0 in omega arith
 
 -- ---- the greatest one
 pub record IsDivisor (ns : List ℕ) (g : ℕ) : Type 0 where
@@ -104,22 +101,22 @@ IsDivisor-two a b g is = IsDivisor-cons a (b ∷ []) b g is (IsDivisor-one b)
 -- there is no other
 pub common_divisor-same : (ns : List ℕ) (g : ℕ) → IsDivisor ns g → common_divisor ns ≡ g
 unfolding common_divisor
-common_divisor-same ns g is = go (zero_or_pos (largest ns))
+common_divisor-same ns g is = go (zero_or_pos (first_nonzero ns))
   where
     none : (n : ℕ) → suc n ∣ n → n ≡ 0
     none zero h = refl
     none (suc n) h = absurd (omega (arith, le_of_dvd {m = suc (suc n)} {n = suc n} (omega arith) h))
 
-    positive : 0 < largest ns → (g ≡ 0) ⊎ (0 < g) → 0 < g
+    positive : 0 < first_nonzero ns → (g ≡ 0) ⊎ (0 < g) → 0 < g
     positive lt (inl e) = absurd (omega (arith, lt, zero_divides_zeros ns (subst (λ (d : ℕ). DividesAll d ns) e is.divides)))
     positive lt (inr k) = k
 
-    go : (largest ns ≡ 0) ⊎ (0 < largest ns) → greatest_up_to (largest ns) (divides_all ns) ≡ g
+    go : (first_nonzero ns ≡ 0) ⊎ (0 < first_nonzero ns) → greatest_up_to (first_nonzero ns) (divides_all ns) ≡ g
     go (inl e) = ap (λ (n : ℕ). greatest_up_to n (divides_all ns)) e ∙ sym (none g (is.every (suc g) (all_divide_zeros (suc g) ns e)))
     go (inr lt) =
         let some = positive lt (zero_or_pos g) in
-        let most = greatest_up_to-most (divides_all ns) (largest ns) g (DividesAll-le g ns is.divides lt) (test_from_DividesAll g ns is.divides) in
-        let found = DividesAll-from_test _ ns (greatest_up_to-passes (divides_all ns) (largest ns) (omega (arith, most, some))) in
+        let most = greatest_up_to-most (divides_all ns) (first_nonzero ns) g (DividesAll-le g ns is.divides lt) (test_from_DividesAll g ns is.divides) in
+        let found = DividesAll-from_test _ ns (greatest_up_to-passes (divides_all ns) (first_nonzero ns) (omega (arith, most, some))) in
         omega (arith, most, le_of_dvd some (is.every _ found))
 
 -- and there is one

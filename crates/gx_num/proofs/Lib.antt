@@ -1,2 +1,3 @@
 mod Products
 pub mod Divisors
+pub mod Order

@@ -1,14 +1,19 @@
 -- What the report of a ray is: the maximal open intervals of parameters above 0 at which the deepest volume is one.
-use Rattle.std.specs.Prelude.{◌≡◌, ◌≢◌, ◌⊎◌, ℕ, ◌*◌, ◌<◌, ◌≤◌, List, [], ◌∷◌, Option, Some}
+use Rattle.std.specs.Prelude.{◌≡◌, ◌≢◌, ◌⊎◌, ℕ, List, [], ◌∷◌, Option, Some}
 use Rattle.std.specs.List.{AllByRecursion}
-use Rattle.std.specs.Int.{IsGcd}
-use Rattle.gx_num.specs.Ray.{RayParameter}
+use Rattle.gx_num.specs.Number.{IsLowest}
+use Rattle.gx_num.specs.Ray.{RayParameter, IsPositive, IsBelow, IsUpTo}
+use Rattle.gx_fraction.specs.Fraction.{Fraction, parameter_of}
 
 -- between two parameters a list of ordinals leads from the world to the deepest volume
 pub record Row : Type 0 where
   pub from : RayParameter
   pub to : RayParameter
   pub path : List ℕ
+
+-- the row between two fractions that aren't negative
+abbrev pub row_of : Fraction → Fraction → List ℕ → Row
+row_of from to path = record { from = parameter_of from; to = parameter_of to; path = path }
 
 -- R holds of the row and the first of the rows after it, if there is one
 abbrev pub WithNext : (Row → Row → Type 0) → Row → List Row → Type 0

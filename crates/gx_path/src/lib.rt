@@ -1,6 +1,4 @@
-//! Where a ray is inside a solid, and what the report of a ray is.
+//! What the report of a ray is.
 #![tactic(auto)]
 
-mod span;
-
-pub use span::Span;
+pub mod laws;

@@ -13,7 +13,7 @@ use Rattle.gx_algebra.proofs.Identities.{same4, dot4_comm, dot4-plus4, dot4-time
 use Rattle.gx_algebra.proofs.Laws.{mul-zero}
 use Rattle.gx_algebra.proofs.Order.{mul_nonneg, mul_pos_neg, square_nonneg, mul-eq-zero}
 use borrow.Author.Differences.{ints}
-use Rattle.gx_plane.specs.Laws.{IsAbove, IsParted, IsInCone, combination}
+use Rattle.gx_plane.specs.Laws.{IsAbove, IsSeparated, IsInCone, combination}
 
 -- ---- a vector with no product with itself is 0
 square-zero : (a : ℤ) → (a *ℤ a) ≤ℤ pos 0 → a ≡ pos 0
@@ -44,7 +44,7 @@ dot4-combination [] members v h = omega (arith, ints, dot4-origin v)
 dot4-combination (k ∷ ks) [] v h = omega (arith, ints, dot4-origin v)
 
 -- the two cases exclude each other
-pub not_both : (members : List Vec4) (c : Vec4) → IsParted members c → IsInCone members c → ⊥
+pub not_both : (members : List Vec4) (c : Vec4) → IsSeparated members c → IsInCone members c → ⊥
 not_both members c p q =
     let e : dot4 p.by (times4 (pos q.multiple) c) ≡ dot4 p.by (combination q.multiples members) = ap (dot4 p.by) q.sum in
     let many : pos 0 <ℤ pos q.multiple = omega (arith, ints, q.positive) in
@@ -99,8 +99,8 @@ All-unmap P f [] h = All-nil (λ m. P (f m))
 All-unmap P f (m ∷ members) h =
     All-cons (λ a. P (f a)) m members (All-head P (f m) (map f members) h) (All-unmap P f members (All-tail P (f m) (map f members) h))
 
-IsParted-back : (g : Vec4) (members : List Vec4) (c x : Vec4) (d : ℤ) → d ≡ neg_ℤ (dot4 g x) → IsParted (map (moved d g x) members) (moved d g x c) → IsParted (g ∷ members) c
-IsParted-back g members c x d e p =
+IsSeparated-back : (g : Vec4) (members : List Vec4) (c x : Vec4) (d : ℤ) → d ≡ neg_ℤ (dot4 g x) → IsSeparated (map (moved d g x) members) (moved d g x c) → IsSeparated (g ∷ members) c
+IsSeparated-back g members c x d e p =
     let v = back d g x p.by in
     let nothing : d +ℤ dot4 g x ≡ pos 0 = omega (arith, ints) in
     record {
@@ -159,7 +159,7 @@ IsInCone-back g members c x d hd above below q =
 times4-one : (c : Vec4) → times4 (pos 1) c ≡ c
 times4-one = identity4 (vector4 ∷ []) (λ c. term.times4 (num (pos 1)) c ≣⁴ c) tt
 
-found_alone : (c : Vec4) → IsParted [] c ⊎ IsInCone [] c
+found_alone : (c : Vec4) → IsSeparated [] c ⊎ IsInCone [] c
 found_alone c =
     by_lt_z (pos 0) (dot4 c c)
     (λ lt. inl (record { by = opposite4 c; above = All-nil (λ m. pos 0 ≤ℤ dot4 m (opposite4 c)); below = omega (arith, ints, dot4-opposite4 c c) }))
@@ -177,14 +177,14 @@ IsInCone-more g members c q = record {
   sum = q.sum ∙ sym (times4-zero_plus g (combination q.multiples members));
 }
 
-found_more : (g : Vec4) (members : List Vec4) (c : Vec4) → ((ms : List Vec4) (a : Vec4) → length ms ≡ length members → IsParted ms a ⊎ IsInCone ms a) → IsParted (g ∷ members) c ⊎ IsInCone (g ∷ members) c
+found_more : (g : Vec4) (members : List Vec4) (c : Vec4) → ((ms : List Vec4) (a : Vec4) → length ms ≡ length members → IsSeparated ms a ⊎ IsInCone ms a) → IsSeparated (g ∷ members) c ⊎ IsInCone (g ∷ members) c
 found_more g members c find = go (find members c refl)
   where
-    tilt : (x : Vec4) (d : ℕ) → 0 < d → pos d ≡ neg_ℤ (dot4 g x) → IsAbove members x → dot4 c x <ℤ pos 0 → IsParted (map (moved (pos d) g x) members) (moved (pos d) g x c) ⊎ IsInCone (map (moved (pos d) g x) members) (moved (pos d) g x c) → IsParted (g ∷ members) c ⊎ IsInCone (g ∷ members) c
-    tilt x d hd e above below (inl p) = inl (IsParted-back g members c x (pos d) e p)
+    tilt : (x : Vec4) (d : ℕ) → 0 < d → pos d ≡ neg_ℤ (dot4 g x) → IsAbove members x → dot4 c x <ℤ pos 0 → IsSeparated (map (moved (pos d) g x) members) (moved (pos d) g x c) ⊎ IsInCone (map (moved (pos d) g x) members) (moved (pos d) g x c) → IsSeparated (g ∷ members) c ⊎ IsInCone (g ∷ members) c
+    tilt x d hd e above below (inl p) = inl (IsSeparated-back g members c x (pos d) e p)
     tilt x d hd e above below (inr q) = inr (IsInCone-back g members c x d hd above below q)
 
-    go : IsParted members c ⊎ IsInCone members c → IsParted (g ∷ members) c ⊎ IsInCone (g ∷ members) c
+    go : IsSeparated members c ⊎ IsInCone members c → IsSeparated (g ∷ members) c ⊎ IsInCone (g ∷ members) c
     go (inr q) = inr (IsInCone-more g members c q)
     go (inl p) =
         by_lt_z (dot4 g p.by) (pos 0)
@@ -193,7 +193,7 @@ found_more g members c find = go (find members c refl)
         (find (map (moved (pos n.0) g p.by) members) (moved (pos n.0) g p.by c) (length-map members (moved (pos n.0) g p.by))))
         (λ le. inl (record { by = p.by; above = All-cons (λ m. pos 0 ≤ℤ dot4 m p.by) g members le p.above; below = p.below }))
 
-pub found : (n : ℕ) (members : List Vec4) (c : Vec4) → length members ≡ n → IsParted members c ⊎ IsInCone members c
+pub found : (n : ℕ) (members : List Vec4) (c : Vec4) → length members ≡ n → IsSeparated members c ⊎ IsInCone members c
 found n [] c e = found_alone c
 found zero (g ∷ members) c e = absurd (omega arith)
 found (suc n) (g ∷ members) c e = found_more g members c (λ ms a h. found n ms a (omega arith))

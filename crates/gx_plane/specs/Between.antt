@@ -18,6 +18,11 @@ abbrev pub triples_of : List V3 → List (V3 × V3 × V3)
 triples_of [] = []
 triples_of (p ∷ ps) = map (λ t. (p, t.0, t.1)) (pairs_of ps) ++ triples_of ps
 
+-- first those that begin with p and q, then those with p and two of the seconds, then those of the firsts alone
+abbrev pub triples_left : V3 → V3 → List V3 → List V3 → List V3 → List (V3 × V3 × V3)
+triples_left p q thirds seconds firsts =
+    map (λ r. (p, q, r)) thirds ++ (map (λ t. (p, t.0, t.1)) (pairs_of seconds) ++ triples_of firsts)
+
 -- the plane and then the same plane flipped; no plane where the points are collinear
 abbrev pub both_ways : Option HalfSpace → List HalfSpace
 both_ways None = []

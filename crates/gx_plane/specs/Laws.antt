@@ -38,7 +38,7 @@ combination [] members = origin
 combination ks [] = origin
 
 -- a vector has a product of at least 0 with each member, and below 0 with c
-pub record IsParted (members : List Vec4) (c : Vec4) : Type 0 where
+pub record IsSeparated (members : List Vec4) (c : Vec4) : Type 0 where
   pub by : Vec4
   pub above : IsAbove members by
   pub below : dot4 c by <ℤ pos 0
@@ -54,4 +54,4 @@ pub record IsInCone (members : List Vec4) (c : Vec4) : Type 0 where
 -- exactly one of the two holds
 abbrev pub Farkas : Type 0
 Farkas = (members : List Vec4) (c : Vec4) →
-    (IsParted members c ⊎ IsInCone members c) × ¬ (IsParted members c × IsInCone members c)
+    (IsSeparated members c ⊎ IsInCone members c) × ¬ (IsSeparated members c × IsInCone members c)

@@ -50,16 +50,24 @@ flipped h = record { n = opposite_of h.n; e = pos 0 -ℤ h.e }
 abbrev pub normal_of : V3 → V3 → V3 → V3
 normal_of a b c = cross_of (difference_of b a) (difference_of c a)
 
--- the plane with this normal, made primitive, through a
+-- the plane with this normal through a
+abbrev pub plane_from : V3 → V3 → HalfSpace
+plane_from n a = record { n = n; e = dot_of n a }
+
+-- the same with the normal made primitive
 abbrev pub plane_at : V3 → V3 → HalfSpace
-plane_at n a = record { n = primitive n; e = dot_of (primitive n) a }
+plane_at n a = plane_from (primitive n) a
 
 abbrev pub is_zero : V3 → Bool
 is_zero v = unsigned_abs v.x == 0 && (unsigned_abs v.y == 0 && unsigned_abs v.z == 0)
 
+-- the plane with a normal along n through a; None where n is zero
+abbrev pub plane_with : V3 → V3 → Option HalfSpace
+plane_with n a = if is_zero n then None else Some (plane_at n a)
+
 -- the plane of three points; None where they are collinear
 abbrev pub plane_through : V3 → V3 → V3 → Option HalfSpace
-plane_through a b c = if is_zero (normal_of a b c) then None else Some (plane_at (normal_of a b c) a)
+plane_through a b c = plane_with (normal_of a b c) a
 
 -- 1 where it is the given axis, of 0, 1 and 2 for x, y and z
 abbrev pub on_axis : ℕ → ℕ → ℤ

@@ -5,7 +5,7 @@ pub fn tilting()
     ensures { Tilting }
 {}
 
-/// Either a vector parts another from all members of a list, or a multiple of that one is a sum of members.
+/// Either a vector separates another from all members of a list, or a multiple of that one is a sum of members.
 pub fn farkas()
     ensures { Farkas }
 {}

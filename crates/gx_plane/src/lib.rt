@@ -2,11 +2,14 @@
 #![tactic(auto)]
 
 mod between;
-mod laws;
+pub mod laws;
 mod plane;
+mod raw_plane;
+mod senses;
 #[cfg(test)]
 mod tests;
+mod triples;
 
 pub use between::first_triple_between;
-pub use laws::{farkas, tilting};
-pub use plane::Plane;
+pub use plane::{Plane, determinant};
+pub use triples::Triples;

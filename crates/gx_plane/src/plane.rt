@@ -1,7 +1,9 @@
-ghost use Rattle.std.specs.Prelude.{◌≡◌, ◌↔◌, ◌<◌, ◌≤◌, ◌*◌, ◌<ℤ◌, ◌-ℤ◌, pos, IsTrue, unsigned_abs, int_div, All};
-ghost use Rattle.gx_num.specs.Vector.{IsWithin, dot_of, difference_of};
-ghost use Rattle.gx_plane.specs.Plane.{reach, normal_reach, offset_reach, divisor_of, primitive, IsPrimitive, side_of, Supports, flipped, normal_of, plane_through, unit_along, plane_along};
+ghost use Rattle.std.specs.Prelude.{◌≡◌, ◌<◌, ◌≤◌, ◌*◌, ◌<ℤ◌, pos, unsigned_abs, int_div, find, All};
+ghost use Rattle.gx_num.specs.Vector.{IsWithin, dot_of, difference_of, opposite_of};
+ghost use Rattle.gx_plane.specs.Plane.{reach, normal_reach, offset_reach, divisor_of, primitive, IsPrimitive, side_of, supports, flipped, normal_of, plane_with, plane_through, unit_along, plane_along};
+ghost use Rattle.gx_plane.specs.Between.{both_ways};
 
+use crate::between::first_of_three;
 use gx_num::{V3, gcd};
 use std::marker::Model;
 
@@ -48,16 +50,19 @@ impl Plane {
         requires third { IsWithin reach c }
         ensures { result ≡ plane_through a b c }
     {
-        let normal = normal(a, b, c);
-        let divisor = divisor(normal);
-        if divisor == 0 {
-            return None;
-        }
-        let n = divided(normal, signed(divisor));
-        Some(Plane {
-            n,
-            e: product(n, a),
-        })
+        with_normal(normal(a, b, c), a)
+    }
+
+    /// The plane of three points, or else the same plane flipped, that no point is beyond. None where each has a point
+    /// beyond it, and where the three are collinear.
+    pub fn supporting(a: V3, b: V3, c: V3, points: &[V3]) -> Option<Plane>
+        requires first { IsWithin reach a }
+        requires second { IsWithin reach b }
+        requires third { IsWithin reach c }
+        requires within { All (IsWithin reach) points.now }
+        ensures { result ≡ find (λ h. supports h points.now) (both_ways (plane_through a b c)) }
+    {
+        first_of_three(a, b, c, points, &[])
     }
 
     /// The same plane with the opposite normal.
@@ -65,7 +70,7 @@ impl Plane {
         ensures { result ≡ flipped self }
     {
         Plane {
-            n: self.n.neg(),
+            n: opposite(self.n),
             e: -self.e,
         }
     }
@@ -89,16 +94,46 @@ impl Plane {
         ensures value { result ≡ side_of self.now p }
         ensures within { unsigned_abs result ≤ 2 * offset_reach }
     {
-        beyond(product(self.n, p), self.e)
+        product(self.n, p) - self.e
     }
 
     /// No point is beyond the plane.
     pub fn supports(&self, points: &[V3]) -> bool
         requires { All (IsWithin reach) points.now }
-        ensures { IsTrue result ↔ Supports self.now points.now }
+        ensures { result ≡ supports self.now points.now }
     {
         points.iter().all(|&p| self.side(p) <= 0)
     }
+}
+
+/// Above 0 where `p` is beyond the plane of the other three points, and 0 where all four are in one plane: six times the
+/// volume between them.
+pub fn determinant(a: V3, b: V3, c: V3, p: V3) -> i128
+    requires first { IsWithin reach a }
+    requires second { IsWithin reach b }
+    requires third { IsWithin reach c }
+    requires point { IsWithin reach p }
+    ensures value { result ≡ dot_of (normal_of a b c) (difference_of p a) }
+    ensures within { unsigned_abs result ≤ 2 * offset_reach }
+{
+    normal(a, b, c).dot(difference(p, a))
+}
+
+/// The plane through a point with a normal along this one; None where that is zero.
+pub fn with_normal(normal: V3, a: V3) -> Option<Plane>
+    requires normal { IsWithin normal_reach normal }
+    requires point { IsWithin reach a }
+    ensures { result ≡ plane_with normal a }
+{
+    let divisor = divisor(normal);
+    if divisor == 0 {
+        return None;
+    }
+    let n = divided(normal, signed(divisor));
+    Some(Plane {
+        n,
+        e: product(n, a),
+    })
 }
 
 fn unit(axis: u8) -> V3
@@ -121,7 +156,8 @@ fn difference(a: V3, b: V3) -> V3
     a.sub(b)
 }
 
-fn normal(a: V3, b: V3, c: V3) -> V3
+/// Orthogonal to the plane of three points.
+pub fn normal(a: V3, b: V3, c: V3) -> V3
     requires first { IsWithin reach a }
     requires second { IsWithin reach b }
     requires third { IsWithin reach c }
@@ -131,23 +167,23 @@ fn normal(a: V3, b: V3, c: V3) -> V3
     difference(b, a).cross(difference(c, a))
 }
 
-// The scalar product of a plane's normal and a point.
-fn product(n: V3, p: V3) -> i128
+/// The opposite normal.
+pub fn opposite(n: V3) -> V3
+    requires { IsWithin normal_reach n }
+    ensures value { result ≡ opposite_of n }
+    ensures within { IsWithin normal_reach result }
+{
+    n.neg()
+}
+
+/// The scalar product of a plane's normal and a point.
+pub fn product(n: V3, p: V3) -> i128
     requires normal { IsWithin normal_reach n }
     requires point { IsWithin reach p }
     ensures value { result ≡ dot_of n p }
     ensures within { unsigned_abs result ≤ offset_reach }
 {
     n.dot(p)
-}
-
-fn beyond(product: i128, e: i128) -> i128
-    requires product { unsigned_abs product ≤ offset_reach }
-    requires level { unsigned_abs e ≤ offset_reach }
-    ensures value { result ≡ product -ℤ e }
-    ensures within { unsigned_abs result ≤ 2 * offset_reach }
-{
-    product - e
 }
 
 fn magnitude(a: i64) -> u128

@@ -1,6 +1,6 @@
 ghost use Rattle.std.specs.Prelude.{◌≡◌};
 
-use crate::{Plane, first_triple_between};
+use crate::{Plane, determinant, first_triple_between};
 use gx_num::V3;
 use std::test::Fail;
 
@@ -42,6 +42,30 @@ fn a_plane_through_corners_of_a_box_supports_the_box(rt: HostRuntime) -> Result<
     assert!(rt; !right.flip().supports(&corners));
     assert_eq!(rt; right.side(corners[0]), -6);
     Ok(())
+}
+
+// By hand.
+#[test]
+fn a_plane_of_three_points_supports_a_tetrahedron_one_way_or_the_other_or_not(rt: HostRuntime) {
+    let [o, x, y, z] = [
+        point(0, 0, 0),
+        point(2, 0, 0),
+        point(0, 2, 0),
+        point(0, 0, 2),
+    ];
+    let down = Some((point(0, 0, -1), 0));
+    let cases = [
+        (o, x, y, down),
+        (o, y, x, down),
+        (x, y, z, Some((point(1, 1, 1), 2))),
+        (o, x, point(0, 1, 1), None),
+        (o, x, point(1, 0, 0), None),
+    ];
+    for (a, b, c, expected) in cases {
+        let plane = Plane::supporting(a, b, c, &[o, x, y, z]);
+        assert_eq!(rt; plane.map(|plane| (plane.n(), plane.e())), expected);
+    }
+    assert_eq!(rt; determinant(o, x, y, z), 8);
 }
 
 // By hand: no face of either parts them, and the plane is through an edge of each.

@@ -1,5 +1,5 @@
 -- The product of matrices is associative, and its image is the image of the image.
-use Rattle.std.proofs.Common.{◌≡◌, ℕ, ◌*◌, ℤ, pos, ◌+ℤ◌, ◌*ℤ◌, ap, arith}
+use Rattle.std.proofs.Common.{refl, ◌≡◌, ℕ, ◌*◌, ℤ, pos, ◌+ℤ◌, ◌*ℤ◌, ap, arith}
 use Rattle.std.proofs.Math.IntN.{+ℤ_idl, zero-*ℤ, *ℤ-zero}
 use Rattle.std.proofs.lemmas.Int.{ints}
 use borrow.Author.Differences.{up, down, sum_is_lem, product_is}
@@ -81,3 +81,6 @@ product-identity_left a = simp (one-*ℤ, zero-*ℤ, +ℤ-zero, +ℤ_idl)
 
 pub product-identity_right : (a : Matrix) → product a identity ≡ a
 product-identity_right a = simp (*ℤ-one, *ℤ-zero, +ℤ-zero, +ℤ_idl)
+
+pub vector_is : (x y z : ℤ) (v : V3) → x ≡ v.x → y ≡ v.y → z ≡ v.z → record { x = x; y = y; z = z } ≡ v
+vector_is x y z v ex ey ez = rw (ex, ey, ez) refl

@@ -1,7 +1,5 @@
 mod Algebra
-mod Axes
-mod Faithful
 mod Each
+mod Oriented
 mod Tables
 mod Turns
-mod Units

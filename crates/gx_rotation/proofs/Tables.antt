@@ -1,10 +1,10 @@
--- The tables of rotations, compared with the matrices.
-use Rattle.std.proofs.Common.{◌≡◌, ℕ, ◌<◌, [], refl, slice_index_or, ltb, true, Bool, false, ◌/◌, ◌%◌}
+-- What is computed of each number of a rotation.
+use Rattle.std.proofs.Common.{◌≡◌, ℕ, ◌/◌, ◌%◌, false, not, nat_eq, ◌<◌, [], refl, sym, ap, ◌∙◌, slice_index_or, ltb, true, pos}
+use Rattle.std.proofs.Math.Bool.{beq}
 use borrow.Author.Tests.{ltb-true}
-use Rattle.gx_rotation.specs.declared.rotation.TheConstants.{PRODUCTS, INVERSES, COLUMNS, NEGATIVE}
-use Rattle.gx_rotation.specs.Matrix.{product, transpose, identity}
-use Rattle.gx_rotation.specs.Rotation.{matrix_of}
-use Rattle.gx_rotation.proofs.Axes.{signed_rows}
+use Rattle.gx_rotation.specs.declared.rotation.TheConstants.{PRODUCTS, INVERSES, PERMUTATIONS}
+use Rattle.gx_rotation.specs.Matrix.{Matrix, product, transpose, identity, determinant}
+use Rattle.gx_rotation.specs.Rotation.{matrix_of, number_of, number_of-matrix_of, signed_rows, takes_axes_to_axes}
 use Rattle.gx_rotation.proofs.Each.{each, each_pair, values}
 
 abbrev pub product_at : ℕ → ℕ → ℕ
@@ -21,36 +21,43 @@ pub product_at-below : (a b : ℕ) → a < 24 → b < 24 → product_at a b < 24
 product_at-below a b ha hb =
     ltb-true _ _ (each_pair (λ a b. ltb (product_at a b) 24) (λ a b. true) 24 24 refl a b ha hb)
 
-abbrev pub inverse_at : ℕ → ℕ
-inverse_at a = slice_index_or INVERSES a 0
-
-pub inverse_at-below : (a : ℕ) → a < 24 → inverse_at a < 24
-inverse_at-below a h = ltb-true _ _ (each (λ a. ltb (inverse_at a) 24) (λ a. true) 24 refl a h)
-
-pub matrix_of-inverse_at : (a : ℕ) → a < 24 → matrix_of (inverse_at a) ≡ transpose (matrix_of a)
+pub matrix_of-inverse_at : (a : ℕ) → a < 24 → matrix_of (slice_index_or INVERSES a 0) ≡ transpose (matrix_of a)
 unfolding matrix_of
-matrix_of-inverse_at = each (λ a. matrix_of (inverse_at a)) (λ a. transpose (matrix_of a)) 24 refl
+matrix_of-inverse_at = each (λ a. matrix_of (slice_index_or INVERSES a 0)) (λ a. transpose (matrix_of a)) 24 refl
 
-product-transpose_left : (a : ℕ) → a < 24 → product (transpose (matrix_of a)) (matrix_of a) ≡ identity
+pub product-transpose_left : (k : ℕ) → k < 24 → product (transpose (matrix_of k)) (matrix_of k) ≡ identity
 unfolding matrix_of
-product-transpose_left = each (λ a. product (transpose (matrix_of a)) (matrix_of a)) (λ a. identity) 24 refl
+product-transpose_left = each (λ k. product (transpose (matrix_of k)) (matrix_of k)) (λ k. identity) 24 refl
 
-product-transpose_right : (a : ℕ) → a < 24 → product (matrix_of a) (transpose (matrix_of a)) ≡ identity
+pub product-transpose_right : (k : ℕ) → k < 24 → product (matrix_of k) (transpose (matrix_of k)) ≡ identity
 unfolding matrix_of
-product-transpose_right = each (λ a. product (matrix_of a) (transpose (matrix_of a))) (λ a. identity) 24 refl
+product-transpose_right = each (λ k. product (matrix_of k) (transpose (matrix_of k))) (λ k. identity) 24 refl
 
-pub inverse_at-left : (a : ℕ) → a < 24 → product (matrix_of (inverse_at a)) (matrix_of a) ≡ identity
-inverse_at-left a h = rw (matrix_of-inverse_at a h) (product-transpose_left a h)
+pub different : (a b : ℕ) → a < 24 → b < 24 → matrix_of a ≡ matrix_of b → a ≡ b
+different a b ha hb e = sym (number_of-matrix_of a ha) ∙ ap (λ m. number_of m) e ∙ number_of-matrix_of b hb
 
-pub inverse_at-right : (a : ℕ) → a < 24 → product (matrix_of a) (matrix_of (inverse_at a)) ≡ identity
-inverse_at-right a h = rw (matrix_of-inverse_at a h) (product-transpose_right a h)
-
-abbrev pub column : ℕ → ℕ → ℕ
-column k i = slice_index_or (slice_index_or COLUMNS (k / 4) []) i 0
-
-abbrev pub is_negative : ℕ → ℕ → Bool
-is_negative k i = slice_index_or (slice_index_or (slice_index_or NEGATIVE (k / 4) []) (k % 4) []) i false
-
-pub matrix_is : (k : ℕ) → k < 24 → matrix_of k ≡ signed_rows (is_negative k 0) (is_negative k 1) (is_negative k 2) (column k 0) (column k 1) (column k 2)
+pub axes : (k : ℕ) → k < 24 → takes_axes_to_axes (matrix_of k) ≡ true
 unfolding matrix_of
-matrix_is = each matrix_of (λ k. signed_rows (is_negative k 0) (is_negative k 1) (is_negative k 2) (column k 0) (column k 1) (column k 2)) 24 refl
+axes = each (λ k. takes_axes_to_axes (matrix_of k)) (λ k. true) 24 refl
+
+pub proper : (k : ℕ) → k < 24 → determinant (matrix_of k) ≡ pos 1
+unfolding matrix_of
+proper = each (λ k. determinant (matrix_of k)) (λ k. pos 1) 24 refl
+
+abbrev column : ℕ → ℕ → ℕ
+column k i = slice_index_or (slice_index_or PERMUTATIONS (k / 4) ([], false)).0 i 0
+
+pub column-below : (k i : ℕ) → k < 24 → i < 3 → column k i < 3
+column-below k i hk hi = ltb-true _ _ (each_pair (λ k i. ltb (column k i) 3) (λ k i. true) 24 3 refl k i hk hi)
+
+-- the signs and columns as the code reads them
+abbrev read : ℕ → Matrix
+read k =
+    let x = nat_eq (k % 4 / 2) 1 in
+    let y = nat_eq (k % 2) 1 in
+    let odd = (slice_index_or PERMUTATIONS (k / 4) ([], false)).1 in
+    signed_rows x y (not (beq (not (beq x y)) odd)) (column k 0) (column k 1) (column k 2)
+
+pub matrix_of-read : (k : ℕ) → k < 24 → matrix_of k ≡ read k
+unfolding matrix_of
+matrix_of-read = each matrix_of read 24 refl

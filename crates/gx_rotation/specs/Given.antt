@@ -1,18 +1,12 @@
 -- Rotations as a text gives them: by quarter turns about the axes, by the images of the axes, or by nine entries.
-use Rattle.std.specs.Prelude.{ℕ, ℤ, ◌+◌, ◌*ℤ◌, ◌-ℤ◌, ◌%◌, List, [], ◌∷◌, Option, None, Result, Ok, Err, pos, negsuc, if◌then◌else◌, slice_index_or}
+use Rattle.std.specs.Prelude.{ℕ, ℤ, ◌+◌, ◌*ℤ◌, ◌-ℤ◌, ◌%◌, List, [], ◌∷◌, Option, None, Result, Ok, Err, pos, negsuc, nat_eq, if◌then◌else◌, slice_index_or}
 use Rattle.std.specs.Option.{ok_or}
 use Rattle.std.specs.Ordering.{int_eq}
 use Rattle.gx_num.specs.declared.vector.V3.{V3}
-use Rattle.gx_rotation.specs.declared.rotation.Rotation.{Rotation}
 use Rattle.gx_rotation.specs.declared.fault.RotationFault.{RotationFault}
 use Rattle.gx_rotation.specs.declared.fault.RotationFault.TheVariants.{NotAxis, Mirror}
 use Rattle.gx_rotation.specs.Matrix.{Matrix, transpose, product, determinant}
-use Rattle.gx_rotation.specs.Rotation.{matrix_of, takes_axes_to_axes}
-
--- the answer with the matrix in the rotation's place
-abbrev pub with_matrix : Result Rotation RotationFault → Result Matrix RotationFault
-with_matrix (Ok r) = Ok (matrix_of r.index)
-with_matrix (Err e) = Err e
+use Rattle.gx_rotation.specs.Rotation.{takes_axes_to_axes}
 
 -- the first fault, else what follows
 abbrev pub and_then : {A B : Type 0} → Result A RotationFault → (A → Result B RotationFault) → Result B RotationFault
@@ -61,11 +55,15 @@ turn_z q = record {
   z = record { x = pos 0; y = pos 0; z = pos 1 };
 }
 
+-- quarter turns about an axis
+abbrev pub turn : ℕ → ℕ → Matrix
+turn axis q = if nat_eq axis 0 then turn_x q else (if nat_eq axis 1 then turn_y q else turn_z q)
+
 -- three angles: first about x, then about y, then about z
 abbrev pub by_angles3 : List (Option ℕ) → Result Matrix RotationFault
 by_angles3 q =
     and_then (value_at q 0) (λ x. and_then (value_at q 1) (λ y. and_then (value_at q 2) (λ z.
-    Ok (product (product (turn_z z) (turn_y y)) (turn_x x)))))
+    Ok (product (product (turn 2 z) (turn 1 y)) (turn 0 x)))))
 
 -- the direction of the angles theta, from z, and phi, about z from x
 unfoldable pub direction : ℕ → ℕ → V3

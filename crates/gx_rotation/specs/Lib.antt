@@ -1,4 +1,3 @@
-pub mod Axis
 pub mod Given
 pub mod Laws
 pub mod Matrix

@@ -1,5 +1,5 @@
 -- Matrices of three rows of whole numbers: product, image of a vector, determinant (any text on linear algebra).
-use Rattle.std.specs.Prelude.{◌≡◌, ℤ, ◌+ℤ◌, ◌-ℤ◌, ◌*ℤ◌, pos}
+use Rattle.std.specs.Prelude.{ℤ, ◌+ℤ◌, ◌-ℤ◌, ◌*ℤ◌, pos}
 use Rattle.gx_num.specs.declared.vector.V3.{V3}
 use Rattle.gx_num.specs.Vector.{dot_of}
 
@@ -28,12 +28,6 @@ product a b = let columns = transpose b in record {
 -- the matrix times the vector
 abbrev pub image : Matrix → V3 → V3
 image m v = record { x = dot_of m.x v; y = dot_of m.y v; z = dot_of m.z v }
-
--- the same as three equations
-pub record IsImage (m : Matrix) (v result : V3) : Type 0 where
-  pub x : result.x ≡ dot_of m.x v
-  pub y : result.y ≡ dot_of m.y v
-  pub z : result.z ≡ dot_of m.z v
 
 abbrev pub identity : Matrix
 identity = record {

@@ -1,6 +1,6 @@
 //! Laws of the definitions, each the contract of a function that does nothing.
 
-ghost use Rattle.gx_rotation.specs.Laws.{IsGroup, IsAction, IsFaithful};
+ghost use Rattle.gx_rotation.specs.Laws.{IsGroup, IsAction, AreRotations};
 
 pub fn group()
     ensures { IsGroup }
@@ -10,6 +10,6 @@ pub fn action()
     ensures { IsAction }
 {}
 
-pub fn faithful()
-    ensures { IsFaithful }
+pub fn rotations()
+    ensures { AreRotations }
 {}

@@ -1,14 +1,15 @@
-ghost use Rattle.std.specs.Prelude.{◌≡◌, ◌<◌, ◌^◌, pos, negsuc, if◌then◌else◌};
+ghost use Rattle.std.specs.Prelude.{◌≡◌, ◌<◌, ◌^◌};
 ghost use Rattle.gx_num.specs.Vector.{IsWithin, dot_of};
-ghost use Rattle.gx_rotation.specs.Rotation.{row_with};
+ghost use Rattle.gx_rotation.specs.Matrix.{product, transpose, identity, image};
+ghost use Rattle.gx_rotation.specs.Rotation.{matrix_of, unit_vector};
 
 use gx_num::V3;
+use std::marker::Model;
 
-/// One of the 24 rotations that take the axes to axes, by its number.
+/// One of the 24 rotations that take the axes to axes. Contracts see its matrix.
 #[derive(Clone, Copy, Debug, PartialEq, Eq)]
 pub struct Rotation {
     index: u8,
-    pub ghost in_range: { index < 24 },
 }
 
 // Four numbers share a permutation, and differ in the last two bits, where the exclusive or multiplies the signs.
@@ -43,54 +44,52 @@ const INVERSES: [u8; 24] = [
     0, 1, 2, 3, 5, 4, 6, 7, 8, 10, 9, 11, 16, 18, 19, 17, 12, 15, 13, 14, 22, 21, 20, 23,
 ];
 
-// The columns of the three entries.
-const COLUMNS: [[u8; 3]; 6] = [
-    [0, 1, 2],
-    [0, 2, 1],
-    [1, 0, 2],
-    [1, 2, 0],
-    [2, 0, 1],
-    [2, 1, 0],
+// The columns of the three entries, and whether their order is odd.
+const PERMUTATIONS: [([u8; 3], bool); 6] = [
+    ([0, 1, 2], false),
+    ([0, 2, 1], true),
+    ([1, 0, 2], true),
+    ([1, 2, 0], false),
+    ([2, 0, 1], false),
+    ([2, 1, 0], true),
 ];
 
-const EVEN: [[bool; 3]; 4] = [
-    [false, false, false],
-    [false, true, true],
-    [true, false, true],
-    [true, true, false],
-];
+impl Model for Rotation {
+    ghost use Rattle.std.specs.Prelude.{◌<◌};
+    ghost use Rattle.gx_rotation.specs.Matrix.{Matrix};
+    ghost use Rattle.gx_rotation.specs.Rotation.{matrix_of, number_of, number_of-matrix_of};
 
-const ODD: [[bool; 3]; 4] = [
-    [false, false, true],
-    [false, true, false],
-    [true, false, false],
-    [true, true, true],
-];
+    ghost Value = { Matrix };
 
-// Which of the three entries are -1.
-const NEGATIVE: [[[bool; 3]; 4]; 6] = [EVEN, ODD, ODD, EVEN, EVEN, ODD];
+    ghost view = { λ r. matrix_of r.index };
+
+    ghost invariant = { λ r. r.index < 24 };
+
+    ghost inverse = { λ m. record { index = number_of m } };
+
+    ghost inverse_ok = { λ r h i. record { index = number_of-matrix_of r.index h i } };
+}
 
 impl Rotation {
-    ghost use Rattle.gx_rotation.specs.Matrix.{product, transpose, identity, IsImage};
-    ghost use Rattle.gx_rotation.specs.Rotation.{matrix_of};
-
     /// The rotation with this number.
     pub fn new(index: u8) -> Rotation
         requires { index < 24 }
-        ensures { result.index ≡ index }
+        ensures { result ≡ matrix_of index }
     {
         Rotation { index }
     }
 
+    /// Its number.
     pub fn index(&self) -> u8
-        ensures { result ≡ self.now.index }
+        ensures value { self.now ≡ matrix_of result }
+        ensures below { result < 24 }
     {
         self.index
     }
 
     /// The rotation that does `o` first.
     pub fn compose(self, o: Rotation) -> Rotation
-        ensures { matrix_of result.index ≡ product (matrix_of self.index) (matrix_of o.index) }
+        ensures { result ≡ product self o }
     {
         Rotation {
             index: PRODUCTS[self.index as usize][o.index as usize],
@@ -99,9 +98,9 @@ impl Rotation {
 
     /// The rotation that undoes this one.
     pub fn inverse(self) -> Rotation
-        ensures left { product (matrix_of result.index) (matrix_of self.index) ≡ identity }
-        ensures right { product (matrix_of self.index) (matrix_of result.index) ≡ identity }
-        ensures transposed { matrix_of result.index ≡ transpose (matrix_of self.index) }
+        ensures left { product result self ≡ identity }
+        ensures right { product self result ≡ identity }
+        ensures transposed { result ≡ transpose self }
     {
         Rotation {
             index: INVERSES[self.index as usize],
@@ -111,25 +110,27 @@ impl Rotation {
     /// The vector turned.
     pub fn apply(self, v: V3) -> V3
         requires { IsWithin (2 ^ 61) v }
-        ensures { IsImage (matrix_of self.index) v result }
+        ensures { result ≡ image self v }
     {
-        let columns = COLUMNS[(self.index / 4) as usize];
-        let negative = NEGATIVE[(self.index / 4) as usize][(self.index % 4) as usize];
+        let (columns, odd) = PERMUTATIONS[(self.index / 4) as usize];
+        let negative_x = self.index % 4 / 2 == 1;
+        let negative_y = self.index % 2 == 1;
+        let negative_z = (negative_x != negative_y) != odd;
         V3 {
-            x: signed_component(v, columns[0], negative[0]),
-            y: signed_component(v, columns[1], negative[1]),
-            z: signed_component(v, columns[2], negative[2]),
+            x: signed_component(v, columns[0], negative_x),
+            y: signed_component(v, columns[1], negative_y),
+            z: signed_component(v, columns[2], negative_z),
         }
     }
 }
 
-// The product of the vector and a row with one entry, 1 or -1.
-fn signed_component(v: V3, column: u8, negative: bool) -> i64
+// The component along the axis, or against it.
+fn signed_component(v: V3, axis: u8, negative: bool) -> i64
     requires within { IsWithin (2 ^ 61) v }
-    requires column { column < 3 }
-    ensures { result ≡ dot_of (row_with column (if negative then negsuc 0 else pos 1)) v }
+    requires axis { axis < 3 }
+    ensures { result ≡ dot_of (unit_vector axis negative) v }
 {
-    let value = match column {
+    let value = match axis {
         0 => v.x,
         1 => v.y,
         _ => v.z,

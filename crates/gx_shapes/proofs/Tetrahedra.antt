@@ -10,7 +10,7 @@ use Rattle.gx_algebra.proofs.Terms as term
 use Rattle.gx_algebra.proofs.Terms.{Term3, Term4, TermHalfSpace, ◌≣◌, ◌⊕◌, ◌⊖◌, ◌⊗◌, none}
 use Rattle.gx_algebra.proofs.Identity.{identity, number, vector3, vector4, half_space}
 use Rattle.gx_algebra.proofs.Order.{mul_nonneg, mul_nonneg_nonpos, neg-mul-neg, square_pos, le_of_mul-le-left}
-use Rattle.gx_plane.proofs.Search.{dot_of-flipped}
+use Rattle.gx_plane.proofs.PlaneFacts.{dot_of-opposite_of}
 use Rattle.gx_plane.specs.Plane.{side_of, flipped, normal_of, is_zero}
 use Rattle.gx_plane.proofs.PlaneFacts.{side_of-flipped}
 use Rattle.gx_convex.specs.Points.{are_coplanar}
@@ -20,7 +20,7 @@ use Rattle.gx_convex.proofs.Bounds.{All-is_in, not_is_zero}
 use Rattle.gx_plane.proofs.Candidates.{normal_term}
 use Rattle.gx_convex.proofs.Coplanar.{volume, volume_term, volume_swap_third, AreInPlane, Decides-triples}
 use Rattle.gx_algebra.proofs.Lists.{All-four}
-use Rattle.gx_convex.proofs.Truth.{Decides-supports}
+use Rattle.gx_plane.proofs.PlaneFacts.{Decides-supports}
 use borrow.Author.Differences.{ints}
 
 abbrev plane_of : V3 → V3 → V3 → HalfSpace
@@ -89,7 +89,7 @@ IsInner-flipped a b c d high = record {
   second = on b (volume_second a b c);
   third = on c (volume_third a b c);
   fourth = omega (arith, ints, side_of-flipped h d, side_of-plane_of a b c d);
-  plane = λ ne. not_is_zero (flipped h).n (difference_of d a) (λ e. ne (omega (arith, ints, e, dot_of-flipped (normal_of a b c) (difference_of d a))));
+  plane = λ ne. not_is_zero (flipped h).n (difference_of d a) (λ e. ne (omega (arith, ints, e, dot_of-opposite_of (normal_of a b c) (difference_of d a))));
   same_side = λ p k. mul_nonneg (volume a b c d) (excess h p) (omega (arith, ints)) (omega (arith, ints, excess-flipped h p));
 }
   where

@@ -11,7 +11,8 @@ use Rattle.gx_algebra.proofs.Identity.{identity, number}
 use Rattle.gx_algebra.proofs.Order.{mul_pos, mul-neg, neg-mul-neg, mul-le-left, le_of_mul-le-left}
 use Rattle.gx_algebra.proofs.Laws.{neg-mul}
 use Rattle.gx_plane.specs.Plane.{side_of}
-use Rattle.gx_convex.proofs.Truth.{AreBehind, Decides-supports}
+use Rattle.gx_plane.proofs.PlaneFacts.{Decides-supports}
+use Rattle.gx_convex.proofs.Truth.{AreBehind}
 use Rattle.gx_convex.specs.Points.{are_coplanar}
 use Rattle.gx_shapes.specs.Shape.{half_space, point, box, trapezoid, corners}
 use Rattle.gx_convex.specs.Hull.{IsAtMost, IsBound, IsHullOf}

@@ -20,5 +20,5 @@ abbrev pub deepest : World → Vec4 → Option (List ℕ)
 deepest world p = if is_inside (solid_of world) p then Some [] else None
 
 -- where the points of a ray are
-abbrev pub place_on : World → Ray → RayParameter → Option (List ℕ)
-place_on world ray t = deepest world (point_of_ray ray t)
+abbrev pub path_along : World → Ray → RayParameter → Option (List ℕ)
+path_along world ray t = deepest world (point_of_ray ray t)

@@ -19,12 +19,16 @@ impl Model for Hierarchy {
     ghost Value = { World };
 
     ghost view = { λ h. record { name = h.name.items; solid = h.solid; material = h.material.items } };
+
+    ghost invariant = { λ h. IsShape h.solid };
 }
 
 impl Hierarchy {
     pub fn new(name: Vec<u8>, solid: Solid, material: Vec<u8>) -> Hierarchy
         ensures { result ≡ record { name = name.items; solid = solid; material = material.items } }
     {
+        // What each solid keeps is known from here on.
+        let _ = solid.hull();
         Hierarchy {
             name,
             solid,
@@ -46,7 +50,8 @@ impl Hierarchy {
 
     /// The world's solid.
     pub fn solid(&self) -> &Solid
-        ensures { result.now ≡ self.now.solid }
+        ensures value { result.now ≡ self.now.solid }
+        ensures shape { IsShape self.now.solid }
     {
         &self.solid
     }

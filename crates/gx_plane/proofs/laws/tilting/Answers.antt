@@ -1,4 +1,4 @@
-use Rattle.gx_plane.proofs.Tilts.{tilted}
+use Rattle.gx_plane.proofs.ExtremeRays.{tilted}
 use Rattle.gx_plane.proofs.laws.tilting.Goals as goal
 
 pub returns : goal.returns

@@ -4,6 +4,4 @@ use Rattle.gx_plane.proofs.plane.difference.Goals as goal
 
 pub returns-clause-within : goal.returns-clause-within
 returns-clause-within c =
-    let w = IsWithin-difference_of reach c.args.a c.args.b c.requires.first c.requires.second in
-    let d = c.sub.ensures in
-    record { x = rw d.x w.x; y = rw d.y w.y; z = rw d.z w.z }
+    rw c.sub.ensures (IsWithin-difference_of reach c.args.a c.args.b c.requires.first c.requires.second)

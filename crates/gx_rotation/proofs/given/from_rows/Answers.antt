@@ -1,19 +1,17 @@
-use Rattle.std.proofs.Common.{arith}
-use Rattle.std.proofs.lemmas.Bool.Decides.{nat_tests}
-use Rattle.gx_rotation.proofs.Axes.{checked-rows}
+use Rattle.std.proofs.Common.{◌≡◌, ◌∙◌, true, rules}
+use Rattle.gx_rotation.specs.Matrix.{Matrix}
+use Rattle.gx_rotation.specs.Rotation.{takes_axes_to_axes}
+use Rattle.gx_rotation.proofs.Oriented.{checked-where}
 use Rattle.gx_rotation.proofs.given.from_rows.Goals as goal
 
-pub returns-then-x-y : goal.returns-then-x-y
-returns-then-x-y c = rw (checked-rows c.args.x c.args.y c.args.z) (grind (arith, nat_tests))
-
-pub returns-then-x-z : goal.returns-then-x-z
-returns-then-x-z c = rw (checked-rows c.args.x c.args.y c.args.z) (grind (arith, nat_tests))
-
-pub returns-then-y-z : goal.returns-then-y-z
-returns-then-y-z c = rw (checked-rows c.args.x c.args.y c.args.z) (grind (arith, nat_tests))
-
-pub returns-then-odd-x : goal.returns-then-odd-x
-returns-then-odd-x c = rw (checked-rows c.args.x c.args.y c.args.z) (grind (arith, nat_tests))
+pub returns-then-apply-lt0 : goal.returns-then-apply-lt0
+returns-then-apply-lt0 c =
+    let m : Matrix = record { x = c.args.x; y = c.args.y; z = c.args.z } in
+    let takes : takes_axes_to_axes m ≡ true = search rules in
+    rw (checked-where m _ _ takes (c.new-rotation.ensures ∙ search rules) c.apply.ensures) (search rules)
 
 pub returns : goal.returns
-returns c = rw (checked-rows c.args.x c.args.y c.args.z) (grind (arith, nat_tests))
+returns c =
+    let m : Matrix = record { x = c.args.x; y = c.args.y; z = c.args.z } in
+    let takes : takes_axes_to_axes m ≡ true = search rules in
+    rw (checked-where m _ _ takes (c.new-rotation.ensures ∙ search rules) c.apply.ensures) (search rules)

@@ -10,11 +10,11 @@ invariant_of-result c =
     let vertices = c.in_ok-vertices.vertices.items in
     let is : vertices ≡ distinct c.deref.result.now = c.in_ok-vertices.ensures.ok in (
       record {
-        most = c.in_ok-vertices.ensures.few;
+        few = c.in_ok-vertices.ensures.few;
         within = c.in_ok-vertices.ensures.within;
         once = ap distinct is ∙ distinct-distinct c.deref.result.now ∙ sym is;
-        solid = ap are_coplanar (sym c.deref-3.ensures.value) ∙ sym c.are_coplanar.ensures ∙ c.if-are_coplanar.false;
+        solid = ap are_coplanar (sym c.deref-2.ensures.value) ∙ sym c.are_coplanar.ensures ∙ c.if-are_coplanar.false;
       },
-      c.in_ok-faces.ensures.ok ∙ ap faces_of c.deref-5.ensures.value,
-      c.extent-extent.ensures ∙ ap extent_of c.deref-7.ensures.value,
+      c.in_ok-faces.ensures.ok ∙ ap faces_of c.deref-3.ensures.value,
+      c.extent-extent.ensures ∙ ap extent_of c.deref-4.ensures.value,
     )

@@ -1,7 +1,7 @@
 use Rattle.std.proofs.Common.{◌≡◌, length, drop, take, arith}
 use Rattle.std.proofs.lemmas.Grind.{common_steps}
 use Rattle.gx_io.specs.Bytes.{with_before}
-use Rattle.gx_io.proofs.Gathered.{read-from}
+use Rattle.gx_io.proofs.Places.{read-from}
 use Rattle.gx_io.proofs.mem_source.MemSourceSource.read.Goals as goal
 
 pub returns-clause-bytes : goal.returns-clause-bytes

@@ -5,5 +5,5 @@ use Rattle.gx_plane.proofs.plane.Plane.flip.Goals as goal
 
 pub invariant_of-result : goal.invariant_of-result
 invariant_of-result c =
-    let level = c.self.invariant.offset_within in
-    IsPlane-opposite _ c.neg.result _ c.neg.ensures (omega (arith, ints, level)) c.self.invariant
+    let offset = c.self.invariant.offset_within in
+    IsPlane-opposite _ c.opposite.result _ c.opposite.ensures.value c.opposite.ensures.within (omega (arith, ints, offset)) c.self.invariant

@@ -1,12 +1,11 @@
-use Rattle.gx_rotation.proofs.Tables.{inverse_at-below, matrix_of-inverse_at, inverse_at-left, inverse_at-right}
+use Rattle.gx_rotation.proofs.Tables.{matrix_of-inverse_at, product-transpose_left, product-transpose_right}
 use Rattle.gx_rotation.proofs.rotation.Rotation.inverse.Goals as goal
 
-pub invariant_of-result : goal.invariant_of-result
-invariant_of-result c = record { in_range = inverse_at-below c.args.self.index c.args.self.in_range }
-
 pub returns : goal.returns
-returns c = record {
-  left = inverse_at-left c.args.self.index c.args.self.in_range;
-  right = inverse_at-right c.args.self.index c.args.self.in_range;
-  transposed = matrix_of-inverse_at c.args.self.index c.args.self.in_range;
-}
+returns c =
+    let inverse = matrix_of-inverse_at _ c.self.invariant in
+    record {
+      left = rw (← c.self.view_is, inverse) (product-transpose_left _ c.self.invariant);
+      right = rw (← c.self.view_is, inverse) (product-transpose_right _ c.self.invariant);
+      transposed = rw (← c.self.view_is) inverse;
+    }

@@ -1,0 +1,3 @@
+pub mod Clips
+pub mod Parameters
+pub mod Parts

@@ -1,0 +1,3 @@
+pub mod Clip
+pub mod Interval
+pub mod Parameter

@@ -1,5 +1,0 @@
-use Rattle.gx_path.proofs.Unique.{unique}
-use Rattle.gx_navigator.proofs.laws.one_report.Goals as goal
-
-pub returns : goal.returns
-returns c = unique

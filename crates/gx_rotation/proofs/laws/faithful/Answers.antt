@@ -1,5 +1,0 @@
-use Rattle.gx_rotation.proofs.Faithful.{different, axes, proper}
-use Rattle.gx_rotation.proofs.laws.faithful.Goals as goal
-
-pub returns : goal.returns
-returns c = record { different = different; axes = axes; proper = proper }
