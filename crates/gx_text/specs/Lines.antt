@@ -38,6 +38,7 @@ visible_of line = before_comment (strip_carriage_return line)
 abbrev pub words_in : List ℕ → List (List ℕ)
 words_in text = filter (λ word. not (length word == 0)) (slice_split is_blank text)
 
+-- the words before a line's comment
 abbrev pub words_of : List ℕ → List (List ℕ)
 words_of line = words_in (visible_of line)
 

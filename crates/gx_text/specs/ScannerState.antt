@@ -11,6 +11,7 @@ pub data ScannerState : Type 0 where
   Scanning : ℕ → List ℕ → ScannerState
   Failed : LineFault → ScannerState
 
+-- the state by what was answered, the number and the line
 abbrev pub state_of : Option LineFault → ℕ → List ℕ → ScannerState
 state_of None number line = Scanning number line
 state_of (Some fault) number line = Failed fault
@@ -38,6 +39,7 @@ going_on number line (Some fault) = failing fault
 abbrev pub number_after : ℕ → ℕ
 number_after number = min (number + 1) (2 ^ 32 - 1)
 
+-- the next line begins
 abbrev pub next_line : ScannerState → ScannerState
 next_line (Failed fault) = Failed fault
 next_line (Scanning number line) = Scanning (number_after number) []
@@ -62,11 +64,6 @@ standing (Scanning number line) = going_on number line None
 abbrev pub after_bytes : ScannerState → List ℕ → Step
 after_bytes s bytes = fold (λ step b. after_byte step.state b) (standing s) bytes
 
--- the text's end ends the last line
-abbrev pub at_end : ScannerState → Result (Option TextLine) LineFault
-at_end (Failed fault) = Err fault
-at_end (Scanning number line) = ended number line
-
 -- a step is taken, or memory is wanting, and this is kept
 pub record IsTaken (step : Step) (new : ScannerState) (result : Result (Option TextLine) LineFault) : Type 0 where
   pub ok : IfOk result (λ line. (step.answer ≡ Ok line) × (new ≡ step.state))
@@ -78,7 +75,7 @@ abbrev pub Answers : ScannerState → Step → ScannerState → Result (Option T
 Answers (Failed fault) step new result = (result ≡ Err fault) × (new ≡ Failed fault)
 Answers (Scanning number line) step new result = IsTaken step new result
 
--- the answer at the text's end, or memory is wanting; once a fault was answered nothing else is
+-- the text's end ends the last line, or memory is wanting; once a fault was answered nothing else is
 abbrev pub AnswersEnd : ScannerState → Result (Option TextLine) LineFault → Type 0
 AnswersEnd (Failed fault) result = result ≡ Err fault
 AnswersEnd (Scanning number line) result = IfOk result (λ o. ended number line ≡ Ok o) × IfErr result (λ fault. fault ≢ NoMemory → ended number line ≡ Err fault)

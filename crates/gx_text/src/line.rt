@@ -54,6 +54,9 @@ impl Line {
         requires { length text.now ≤ MAX_LINE }
         ensures { IfOk result (λ line. line ≡ line_of number (words_in text.now)) }
     {
+        if text.is_empty() {
+            return Ok(None);
+        }
         let places = places(alloc, text)?;
         if places.is_empty() {
             return Ok(None);

@@ -8,7 +8,7 @@ returns-in-Ok c =
     let s = c.self.inside in
     let none = no_fault _ _ _ c.args.self.now c.self.view_is c.requires.fault in
     let is = scanning _ _ _ c.args.self.now c.self.view_is none in
-    line_ends c.args.self.now s.number s.line c.args.rest.now is (c.self.invariant none) c.requires.rest _ c.end.new.self c.end.result
+    line_ends c.args.self.now s.number s.line c.args.rest.now is c.requires.rest _ c.end.new.self c.end.result
     (rw (none, c.in-Ok.ensures.line) refl) c.end.ensures
 
 pub returns-in-Err : goal.returns-in-Err
@@ -16,7 +16,7 @@ returns-in-Err c =
     let s = c.self.inside in
     let none = no_fault _ _ _ c.args.self.now c.self.view_is c.requires.fault in
     let is = scanning _ _ _ c.args.self.now c.self.view_is none in
-    rw (c.fail.ensures.kept, c.fail.ensures.answer) (line_fails c.args.self.now s.number s.line c.args.rest.now is (c.self.invariant none) c.requires.rest c.in-Err.fault
+    rw (c.fail.ensures.kept, c.fail.ensures.answer) (line_fails c.args.self.now s.number s.line c.args.rest.now is c.requires.rest c.in-Err.fault
     (λ other. ap (ended_with s.number (s.line ++ c.args.rest.now)) (c.in-Err.ensures.err other)))
 
 pub returns-in-Ok-ended : goal.returns-in-Ok-ended
@@ -26,7 +26,7 @@ returns-in-Ok-ended c =
     let none = no_fault _ _ _ c.args.self.now c.self.view_is c.requires.fault in
     let is = scanning _ _ _ c.args.self.now c.self.view_is none in
     let whole : s.line ++ rest ≡ rest = ap (λ line. line ++ rest) (no_bytes s.line (sym c.if-not-is_empty.ensures)) in
-    rw c.next_line.ensures (line_goes c.args.self.now s.number s.line rest is (c.self.invariant none) c.requires.rest c.in-Ok-ended.line
+    rw c.next_line.ensures (line_goes c.args.self.now s.number s.line rest is c.requires.rest c.in-Ok-ended.line
     (ap (ended s.number) whole ∙ c.in-Ok-ended.ensures.ok))
 
 pub returns-in-Err-ended : goal.returns-in-Err-ended
@@ -36,5 +36,5 @@ returns-in-Err-ended c =
     let none = no_fault _ _ _ c.args.self.now c.self.view_is c.requires.fault in
     let is = scanning _ _ _ c.args.self.now c.self.view_is none in
     let whole : s.line ++ rest ≡ rest = ap (λ line. line ++ rest) (no_bytes s.line (sym c.if-not-is_empty.ensures)) in
-    rw (c.fail-in-Err-ended.ensures.kept, c.fail-in-Err-ended.ensures.answer) (line_fails c.args.self.now s.number s.line rest is (c.self.invariant none) c.requires.rest c.in-Err-ended.fault
+    rw (c.fail-in-Err-ended.ensures.kept, c.fail-in-Err-ended.ensures.answer) (line_fails c.args.self.now s.number s.line rest is c.requires.rest c.in-Err-ended.fault
     (λ other. ap (ended s.number) whole ∙ c.in-Err-ended.ensures.err other))

@@ -7,11 +7,11 @@ returns-in-Ok c =
     let none = no_fault _ _ _ c.args.self.now c.self.view_is c.requires.fault in
     let is = scanning _ _ _ c.args.self.now c.self.view_is none in
     rw (none, c.in-Ok.ensures.line)
-    (part_goes c.args.self.now s.number s.line c.args.part.now is (c.self.invariant none) c.requires.part c.in-Ok.ensures.kept)
+    (part_goes c.args.self.now s.number s.line c.args.part.now is c.requires.part (c.self.invariant none) c.in-Ok.ensures.kept)
 
 pub returns-in-Err : goal.returns-in-Err
 returns-in-Err c =
     let s = c.self.inside in
     let none = no_fault _ _ _ c.args.self.now c.self.view_is c.requires.fault in
     let is = scanning _ _ _ c.args.self.now c.self.view_is none in
-    rw (c.fail.ensures.kept, c.fail.ensures.answer) (part_fails c.args.self.now s.number s.line c.args.part.now is (c.self.invariant none) c.requires.part c.in-Err.fault c.in-Err.ensures.err)
+    rw (c.fail.ensures.kept, c.fail.ensures.answer) (part_fails c.args.self.now s.number s.line c.args.part.now is c.requires.part (c.self.invariant none) c.in-Err.fault c.in-Err.ensures.err)
