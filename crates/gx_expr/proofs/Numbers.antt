@@ -1,6 +1,6 @@
 -- Ratios in lowest terms or too wide, and powers of ten above 18.
-use Rattle.std.proofs.Common.{◌≡◌, ℕ, suc, ◌+◌, ◌-◌, ◌*◌, ◌%◌, ◌^◌, ◌<◌, ◌≤◌, ℤ, pos, negsuc, ◌-ℤ◌, true, false, List, [], ◌∷◌, length, Err, Result, min, nat_le, refl, sym, ap, ◌∙◌, nat_lt, arith, inl, inr, ◌==◌}
-use Rattle.std.specs.Prelude.{IsTrue, if◌then◌else◌}
+use Rattle.std.proofs.Common.{◌≡◌, ℕ, suc, ◌+◌, ◌-◌, ◌*◌, ◌%◌, ◌^◌, ◌<◌, ◌≤◌, ℤ, pos, negsuc, neg_ℤ, ◌-ℤ◌, true, false, List, [], ◌∷◌, length, Ok, Err, Result, min, nat_le, refl, sym, ap, ◌∙◌, nat_lt, arith, inl, inr, ◌==◌}
+use Rattle.std.specs.Prelude.{IsTrue, if◌then◌else◌, unsigned_abs}
 use Rattle.std.proofs.Math.Nat.{div-one, pow-le-pow_right, min-eq_left, min-eq_right}
 use Rattle.std.proofs.lemmas.Bool.{leb-true, le-leb, lt-leb, lt-ltb, le-ltb, cases_lt, and_parts}
 use Rattle.std.proofs.lemmas.Int.{ints}
@@ -38,11 +38,18 @@ few_digits n count h g = omega (arith, pow-le-pow_right {n = 10} (omega arith) g
 pub common_one : (n : ℕ) → common_divisor (1 ∷ n ∷ []) ≡ 1
 common_one n = common_divisor-same (1 ∷ n ∷ []) 1 (IsDivisor-two 1 n 1 (IsGcd-swap n 1 1 (IsGcd-from_mod n 1 1 (IsGcd-from_zero 1 (n % 1) (omega arith)))))
 
-lowest_whole : (n : ℕ) → lowest (pos n) 1 ≡ record { num = pos n; den = 1 }
-lowest_whole n = rw (common_one n) (ap (λ (x : ℕ). let f : Fraction = record { num = pos x; den = 1 } in f) (div-one n))
+pub one_common : (n : ℕ) → common_divisor (n ∷ 1 ∷ []) ≡ 1
+one_common n = common_divisor-same (n ∷ 1 ∷ []) 1 (IsDivisor-two n 1 1 (IsGcd-from_mod n 1 1 (IsGcd-from_zero 1 (n % 1) (omega arith))))
+
+lowest_whole : (n : ℤ) → lowest n 1 ≡ record { num = n; den = 1 }
+lowest_whole (pos n) = rw (common_one n) (ap (λ (x : ℕ). let f : Fraction = record { num = pos x; den = 1 } in f) (div-one n))
+lowest_whole (negsuc n) = rw (common_one (suc n)) (ap (λ (x : ℕ). let f : Fraction = record { num = neg_ℤ (pos x); den = 1 } in f) (div-one (suc n)))
 
 too_wide : (n : ℕ) → 2 ^ 62 < n → ratio (pos n) (pos 1) false false ≡ Err TooWide
-too_wide n h = ap (if_narrow false false) (lowest_whole n) ∙ rw (lt-ltb (2 ^ 62) n h) refl
+too_wide n h = ap (if_narrow false false) (lowest_whole (pos n)) ∙ rw (lt-ltb (2 ^ 62) n h) refl
+
+pub ratio-whole : (n : ℤ) → unsigned_abs n ≤ 2 ^ 62 → ratio n (pos 1) false false ≡ Ok (record { number = record { num = n; den = 1 }; length = false; angle = false })
+ratio-whole n h = ap (if_narrow false false) (lowest_whole n) ∙ rw (le-ltb (2 ^ 62) (unsigned_abs n) h) refl
 
 large : (n k : ℕ) → 0 < n → 18 < k → ratio (pos (n * 10 ^ k)) (pos 1) false false ≡ Err TooWide
 large n k h g = too_wide (n * 10 ^ k) (omega (arith, mul-le 1 (10 ^ 19) n (10 ^ k) h (pow-le-pow_right {n = 10} (omega arith) g)))

@@ -17,7 +17,7 @@ use Rattle.gx_expr.proofs.Numbers.{placed_is, long_is, capped_up, capped_down}
 
 -- ---- zeros at both ends
 
-shorter-cons : (c : ℕ) (s : List ℕ) → shorter (c ∷ s) ≡ (if c == 48 then shorter s else c ∷ s)
+pub shorter-cons : (c : ℕ) (s : List ℕ) → shorter (c ∷ s) ≡ (if c == 48 then shorter s else c ∷ s)
 shorter-cons c s = elim (c == 48) as (λ z. drop (cond z (1 + zeros_before s) 0) (c ∷ s) ≡ (if z then shorter s else c ∷ s)) [ true ↦ rw one-add refl | false ↦ refl ]
 
 -- one more zero after none but zeros
@@ -36,7 +36,7 @@ shorter-more (c ∷ s) b h = elim (cases_Bool (c == 48)) [
   | inr z ↦ rw (shorter-cons c (s ++ b ∷ []), shorter-cons c s, z) refl
 ]
 
-zeros_after-more : (s : List ℕ) (b : ℕ) → zeros_after (s ++ b ∷ []) ≡ cond (b == 48) (1 + zeros_after s) 0
+pub zeros_after-more : (s : List ℕ) (b : ℕ) → zeros_after (s ++ b ∷ []) ≡ cond (b == 48) (1 + zeros_after s) 0
 zeros_after-more s b = ap (prefix_len (λ b. b == 48)) (reverse-append s (b ∷ []))
 
 prefix_len-front : (p : ℕ → Bool) (xs ys : List ℕ) → prefix_len p xs < length xs → prefix_len p (xs ++ ys) ≡ prefix_len p xs
@@ -47,7 +47,7 @@ prefix_len-front p (x ∷ xs) ys h = elim (cases_Bool (p x)) [
 ]
 
 -- the zeros at the end are the same without those in front
-zeros_after-shorter : (s : List ℕ) → zeros_after (shorter s) < length (shorter s) → zeros_after s ≡ zeros_after (shorter s)
+pub zeros_after-shorter : (s : List ℕ) → zeros_after (shorter s) < length (shorter s) → zeros_after s ≡ zeros_after (shorter s)
 zeros_after-shorter [] h = refl
 zeros_after-shorter (c ∷ s) h = elim (cases_Bool (c == 48)) [
   | inl z ↦
@@ -60,7 +60,7 @@ zeros_after-shorter (c ∷ s) h = elim (cases_Bool (c == 48)) [
 
 -- ---- one more digit
 
-ten_more : (k : ℕ) → 10 ^ (k + 1) ≡ 10 ^ k * 10
+pub ten_more : (k : ℕ) → 10 ^ (k + 1) ≡ 10 ^ k * 10
 ten_more k = rw add-one (pow-suc 10 k)
 
 module _ (s : List ℕ) (d e : Digits) (seen : IsSeen s d) where

@@ -1,5 +1,5 @@
 -- The tree at a place, byte by byte.
-use Rattle.std.proofs.Common.{◌≡◌, ℕ, ◌==◌, ◌-◌, true, false, List, [], ◌∷◌, length, Option, None, Some, nat_lt, refl, sym, ap, ◌∙◌, subst}
+use Rattle.std.proofs.Common.{◌≡◌, ℕ, ◌==◌, ◌-◌, true, false, List, [], ◌∷◌, length, Option, None, Some, nat_lt, refl, sym, ap, ◌∙◌}
 use Rattle.std.proofs.lemmas.Bool.{eqb-false}
 use Rattle.gx_expr.specs.Descent.{begins, IsSumEnd, IsProductEnd, tree_after, tree_on, signed_by, after}
 use Rattle.gx_expr.specs.Tree.{Tree, product, quotient, sum, difference, Part, leaf, plus, minus, times, over, opening, closing, Level, first, term_of, whole_of, next_term, next_factor, negated, in_front, part_at, onto, parts_from, parts_of, tree_from, Read}
@@ -100,7 +100,7 @@ none-outside here t b s sums products =
 -- ---- places that are one
 
 -- what follows a primary depends on the sum before it and on its term alone
-one_term : (outer : List Level) (here : Level) (t : Tree) (ps : List Part) → tree_from outer here (Some t) ps ≡ tree_from outer (after here.sum) (Some (term_of here t)) ps
+pub one_term : (outer : List Level) (here : Level) (t : Tree) (ps : List Part) → tree_from outer here (Some t) ps ≡ tree_from outer (after here.sum) (Some (term_of here t)) ps
 one_term [] here t [] = refl
 one_term (around ∷ outer) here t [] = refl
 one_term outer here t (leaf u ∷ ps) = refl
@@ -124,29 +124,52 @@ on-term outer here t s = one_term_after outer here t (parts_of s)
 pub on-signed : (sign : Tree → Tree) (outer : List Level) (here : Level) (t : Tree) (s : List ℕ) → tree_on outer (signed_by sign here) (Some t) s ≡ tree_on outer here (Some (sign t)) s
 on-signed sign outer here t s = on-term outer (signed_by sign here) t s ∙ sym (on-term outer here (sign t) s)
 
+-- no `*` or `/` is next
+abbrev pub EndsTerm : List Part → Type 0
+EndsTerm [] = Unit {0}
+EndsTerm (leaf t ∷ ps) = Unit {0}
+EndsTerm (plus ∷ ps) = Unit {0}
+EndsTerm (minus ∷ ps) = Unit {0}
+EndsTerm (times ∷ ps) = ⊥
+EndsTerm (over ∷ ps) = ⊥
+EndsTerm (opening ∷ ps) = Unit {0}
+EndsTerm (closing ∷ ps) = Unit {0}
+
 -- a term that has ended is in the sum
-module _ (outer : List Level) (sum : Tree → Tree) (t : Tree) where
-  one_sum : (p : Part) (o : Option (List Part)) → (p ≡ times → ⊥) → (p ≡ over → ⊥) → tree_after outer (after sum) (Some t) (in_front p o) ≡ tree_after outer first (Some (sum t)) (in_front p o)
-  one_sum p None times_not over_not = refl
-  one_sum (leaf u) (Some ps) times_not over_not = refl
-  one_sum plus (Some ps) times_not over_not = refl
-  one_sum minus (Some ps) times_not over_not = refl
-  one_sum times (Some ps) times_not over_not = absurd (times_not refl)
-  one_sum over (Some ps) times_not over_not = absurd (over_not refl)
-  one_sum opening (Some ps) times_not over_not = refl
-  one_sum closing (Some ps) times_not over_not = elim outer as (λ outer. tree_from outer (after sum) (Some t) (closing ∷ ps) ≡ tree_from outer first (Some (sum t)) (closing ∷ ps)) [ [] ↦ refl | around ∷ rest ↦ refl ]
+pub one_sum : (outer : List Level) (before : Tree → Tree) (t : Tree) (ps : List Part) → EndsTerm ps → tree_from outer (after before) (Some t) ps ≡ tree_from outer first (Some (before t)) ps
+one_sum [] before t [] h = refl
+one_sum (around ∷ outer) before t [] h = refl
+one_sum outer before t (leaf u ∷ ps) h = refl
+one_sum outer before t (plus ∷ ps) h = refl
+one_sum outer before t (minus ∷ ps) h = refl
+one_sum outer before t (times ∷ ps) h = absurd h
+one_sum outer before t (over ∷ ps) h = absurd h
+one_sum outer before t (opening ∷ ps) h = refl
+one_sum [] before t (closing ∷ ps) h = refl
+one_sum (around ∷ outer) before t (closing ∷ ps) h = refl
 
-  one_sum_read : (f : List ℕ → Option (List Part)) (b : ℕ) → b == 42 ≡ false → b == 47 ≡ false → (o : Option (Read Part)) → IsAt b o → tree_after outer (after sum) (Some t) (onto o f) ≡ tree_after outer first (Some (sum t)) (onto o f)
-  one_sum_read f b times_not over_not None k = refl
-  one_sum_read f b times_not over_not (Some read) k =
-      one_sum read.what (f read.rest)
-      (λ e. eqb-false b 42 times_not (subst (IsOf b) e k))
-      (λ e. eqb-false b 47 over_not (subst (IsOf b) e k))
+module _ (b : ℕ) (times_not : b == 42 ≡ false) (over_not : b == 47 ≡ false) where
+  ends_term : (p : Part) (ps : List Part) → IsOf b p → EndsTerm (p ∷ ps)
+  ends_term (leaf t) ps k = tt
+  ends_term plus ps k = tt
+  ends_term minus ps k = tt
+  ends_term times ps k = eqb-false b 42 times_not k
+  ends_term over ps k = eqb-false b 47 over_not k
+  ends_term opening ps k = tt
+  ends_term closing ps k = tt
 
-  pub on-sum : (s : List ℕ) → IsProductEnd s → tree_on outer (after sum) (Some t) s ≡ tree_on outer first (Some (sum t)) s
-  unfolding tree_on
-  on-sum [] end = elim outer as (λ outer. tree_from outer (after sum) (Some t) [] ≡ tree_from outer first (Some (sum t)) []) [ [] ↦ refl | around ∷ rest ↦ refl ]
-  on-sum (b ∷ s) end = one_sum_read (λ rest. parts_from (length s - length rest) s) b end.times end.over (part_at (b ∷ s)) (part_at-IsAt b s)
+  one_sum_after : (outer : List Level) (before : Tree → Tree) (t : Tree) (p : Part) (o : Option (List Part)) → IsOf b p → tree_after outer (after before) (Some t) (in_front p o) ≡ tree_after outer first (Some (before t)) (in_front p o)
+  one_sum_after outer before t p None k = refl
+  one_sum_after outer before t p (Some ps) k = one_sum outer before t (p ∷ ps) (ends_term p ps k)
+
+  one_sum_read : (outer : List Level) (before : Tree → Tree) (t : Tree) (f : List ℕ → Option (List Part)) (o : Option (Read Part)) → IsAt b o → tree_after outer (after before) (Some t) (onto o f) ≡ tree_after outer first (Some (before t)) (onto o f)
+  one_sum_read outer before t f None k = refl
+  one_sum_read outer before t f (Some read) k = one_sum_after outer before t read.what (f read.rest) k
+
+pub on-sum : (outer : List Level) (before : Tree → Tree) (t : Tree) (s : List ℕ) → IsProductEnd s → tree_on outer (after before) (Some t) s ≡ tree_on outer first (Some (before t)) s
+unfolding tree_on
+on-sum outer before t [] end = one_sum outer before t [] tt
+on-sum outer before t (b ∷ s) end = one_sum_read b end.times end.over outer before t (λ rest. parts_from (length s - length rest) s) (part_at (b ∷ s)) (part_at-IsAt b s)
 
 -- nothing follows
 pub on-end : (t : Tree) → tree_on [] first (Some t) [] ≡ Some t

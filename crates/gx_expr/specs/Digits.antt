@@ -1,14 +1,16 @@
 -- How a number is told from its digits. No public contract stands on this file.
-use Rattle.std.specs.Prelude.{◌≡◌, ℕ, ◌+◌, ◌-◌, ◌*◌, ◌<◌, ◌≤◌, ◌^◌, ◌==◌, ℤ, pos, neg_ℤ, min, Bool, true, false, nat_le, nat_lt, if◌then◌else◌, List, [], length, drop, Result, Err}
+use Rattle.std.specs.Prelude.{◌≡◌, ℕ, ◌+◌, ◌-◌, ◌*◌, ◌<◌, ◌≤◌, ◌^◌, ◌==◌, ℤ, pos, neg_ℤ, min, Bool, true, false, nat_le, nat_lt, if◌then◌else◌, List, [], ◌∷◌, length, drop, Option, None, Some, Result, Err}
 use Rattle.gx_expr.specs.declared.digits.Digits.{Digits}
 use Rattle.gx_expr.specs.declared.exponent.Power.{Power}
 use Rattle.gx_expr.specs.declared.exponent.TheConstants.{MOST}
 use Rattle.gx_expr.specs.declared.fault.ExprFault.{ExprFault}
 use Rattle.gx_expr.specs.declared.fault.ExprFault.TheVariants.{TooWide}
 use Rattle.gx_expr.specs.Eval.{zeros_before, zeros_after}
-use Rattle.gx_expr.specs.Tree.{value_of_digits, exponent_at, signed_exponent, Read}
+use Rattle.gx_expr.specs.Tree.{is_digit, value_of_digits, exponent_at, signed_exponent, Read}
 use Rattle.gx_expr.specs.Worth.{Worth, ratio}
 use Rattle.std.specs.Prelude.{take}
+use Rattle.std.specs.List.{list_all}
+use Rattle.std.specs.Option.{option_map}
 
 -- the digits without the zeros before the first other one
 abbrev pub shorter : List ℕ → List ℕ
@@ -59,3 +61,12 @@ pub record IsPower (read : Read ℤ) (power : Power) (new : List ℕ) : Type 0 w
   pub what : read.what ≡ power_of power.negative magnitude
   pub size : power.size ≡ min MOST magnitude
   pub rest : new ≡ read.rest
+
+-- the value of 1 to 9 digits
+abbrev pub few_digits : List ℕ → Option ℕ
+few_digits s = if length s == 0 then None else if nat_lt 9 (length s) then None else if list_all is_digit s then Some (value_of_digits s) else None
+
+-- the number that a word of 1 to 9 digits is, with or without `-` (45) before them
+abbrev pub plain_number : List ℕ → Option ℤ
+plain_number [] = None
+plain_number (b ∷ s) = if b == 45 then option_map (λ n. neg_ℤ (pos n)) (few_digits s) else option_map pos (few_digits (b ∷ s))

@@ -1,10 +1,6 @@
--- Expressions, and the trees that they are. The grammar is this project's own:
---     expr    = term { ("+" | "-") term }
---     term    = factor { ("*" | "/") factor }
---     factor  = { "+" | "-" } primary
---     primary = number | "$" name | unit | "(" expr ")"
---     number  = (digits [ "." [ digits ] ] | "." digits) [ ("e" | "E") [ "+" | "-" ] digits ]
--- The longest spelling is taken for a number, for a name (letters, digits and `_`) and for a unit (letters).
+-- Expressions: the parts of a word, and the tree of the parts. A number is
+--     number = (digits [ "." [ digits ] ] | "." digits) [ ("e" | "E") [ "+" | "-" ] digits ]
+-- and the longest spelling is taken for a number, for a name (letters, digits and `_`) and for a unit (letters).
 use Rattle.std.specs.Prelude.{ℕ, suc, zero, ◌+◌, ◌-◌, ◌*◌, ℤ, pos, neg_ℤ, ◌-ℤ◌, Bool, ◌==◌, ◌&&◌, ◌||◌, false, nat_le, nat_lt, if◌then◌else◌, List, [], ◌∷◌, ◌++◌, length, take, drop, fold, Option, None, Some}
 use Rattle.std.specs.List.{prefix_len}
 

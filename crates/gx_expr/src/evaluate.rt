@@ -4,15 +4,19 @@ ghost use Rattle.gx_expr.specs.Descent.{Reads, anywhere, after, alone, IsSumEnd,
 
 use crate::leaf::leaf;
 use crate::operator::{combined, opposite_if, product_sign, signs, sum_sign};
+use crate::plain::plain_number;
 use crate::text::Text;
 use crate::{ExprFault, Params, Value};
 
 /// What a word is worth, where its names have the values of `params`. `Syntax` where it is no expression; else the
 /// first fault in evaluation, operands before their operator and left before right. Takes no memory.
-#[tactic(auto, using(crate::proofs::Descent::word_none, crate::proofs::Descent::word_whole, crate::proofs::Descent::word_more))]
+#[tactic(auto, using(crate::proofs::Casts::small, crate::proofs::Descent::word_none, crate::proofs::Descent::word_whole, crate::proofs::Descent::word_more))]
 pub fn eval(params: &Params, word: &[u8]) -> Result<Value, ExprFault>
     ensures { result ≡ evaluated params.now word.now }
 {
+    if let Some(number) = plain_number(word) {
+        return Value::new(number, 1, false, false);
+    }
     let mut text = Text::new(word);
     let Some(value) = expr(params, &mut text, 0) else {
         return Err(ExprFault::Syntax);

@@ -12,6 +12,7 @@ pub mod laws;
 mod leaf;
 mod operator;
 mod params;
+mod plain;
 mod product;
 mod shift;
 mod text;

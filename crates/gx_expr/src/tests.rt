@@ -51,7 +51,7 @@ fn words_have_the_values_that_the_grammar_gives(rt: HostRuntime) -> Result<(), F
     let length = |num: i128, den: i128| Value::new(num, den, true, false);
     let mut params = Params::new(rt.alloc());
     params.define(b"a_1", length(5, 2)?)?;
-    let cases: [(&[u8], Result<Value, ExprFault>); 46] = [
+    let cases: [(&[u8], Result<Value, ExprFault>); 50] = [
         (b"370.*cm", length(3700, 1)),
         (b"1.5e-1*m", length(150, 1)),
         (b"2*(3-5)/4", plain(-1, 1)),
@@ -107,6 +107,10 @@ fn words_have_the_values_that_the_grammar_gives(rt: HostRuntime) -> Result<(), F
         (b"3)", Err(ExprFault::Syntax)),
         (b"1-2-3*4/6/2", plain(-2, 1)),
         (b"8/2*2", plain(8, 1)),
+        (b"-0", plain(0, 1)),
+        (b"-007", plain(-7, 1)),
+        (b"999999999", plain(999999999, 1)),
+        (b"-1234567890", plain(-1234567890, 1)),
     ];
     for (word, value) in cases {
         assert_eq!(rt; eval(&params, word), value);

@@ -33,7 +33,7 @@ pub fn unit(word: &[u8]) -> Result<Value, ExprFault>
     }
 }
 
-#[tactic(auto, using(crate::proofs::Numbers::one_common))]
+#[tactic(auto, using(crate::proofs::Numbers::one_common, crate::proofs::Numbers::common_one))]
 fn unit_value(number: u8) -> Result<Value, ExprFault>
     ensures { result ≡ Ok (unit_of number) }
 {

@@ -1,0 +1,169 @@
+-- Words that are a few digits, with or without a sign.
+use Rattle.std.proofs.Common.{◌≡◌, ℕ, ◌+◌, ◌-◌, ◌*◌, ◌<◌, ◌≤◌, ◌^◌, ◌==◌, pos, neg_ℤ, ℤ, Bool, true, false, List, [], ◌∷◌, ◌++◌, length, take, drop, reverse, fold, Option, None, Some, refl, sym, ap, ◌∙◌, subst, arith, inl, inr, append-nil, length-append, length-drop, nat_lt, length-take, min, zero-add, zero-mul, ◌+ℤ◌}
+use Rattle.std.specs.List.{list_all, prefix_len}
+use Rattle.std.specs.Option.{option_map}
+use Rattle.std.proofs.Math.Nat.{pow-le-pow_right}
+use Rattle.std.proofs.lemmas.Bool.{and_parts, cases_Bool, eqb-true, eqb-false, ltb-false, le-ltb}
+use Rattle.std.proofs.lemmas.Int.{ints}
+use Rattle.std.proofs.lemmas.List.{reverse-append, reverse-reverse, take_all, drop_all, take-append-le}
+use Rattle.std.proofs.lemmas.Option.{none-some}
+use Rattle.std.proofs.lemmas.List.Sums.{fold_push}
+use Rattle.gx_expr.specs.Descent.{signed, IsSigned}
+use Rattle.gx_expr.specs.Digits.{shorter, front_of, few_digits, plain_number}
+use Rattle.gx_expr.specs.Eval.{zeros_before, zeros_after, inner_digits, if_short, worth_of_decimal, evaluated}
+use Rattle.gx_expr.specs.Param.{Param}
+use Rattle.gx_expr.specs.Tree.{is_digit, value_of_digits, decimal_at, begins_decimal, Decimal, Read}
+use Rattle.gx_expr.specs.Worth.{ratio}
+use Rattle.gx_expr.proofs.Descent.{signs_none, signs_more, factor_reads, term_first, expr_first, word_whole}
+use Rattle.gx_expr.specs.declared.operator.Operator.TheVariants.{Minus}
+use Rattle.gx_expr.proofs.Leaves.{number_read}
+use Rattle.gx_expr.proofs.Numbers.{digit_range, ratio-whole}
+use Rattle.gx_expr.proofs.Seen.{shorter-cons, zeros_after-more, zeros_after-shorter, ten_more}
+
+-- ---- the value of digits
+
+abbrev step : ℕ → ℕ → ℕ
+step value b = 10 * value + (b - 48)
+
+value-below : (s : List ℕ) (value k : ℕ) → value < 10 ^ k → list_all is_digit s ≡ true → fold step value s < 10 ^ (length s + k)
+value-below [] value k h e = simp (zero-add) h
+value-below (b ∷ s) value k h e =
+    let both = and_parts (is_digit b) (list_all is_digit s) e in
+    let range = digit_range b both.0 in
+    let more : step value b < 10 ^ (k + 1) = rw (ten_more k) (omega (arith, range.1)) in
+    let size : length s + (k + 1) ≡ length (b ∷ s) + k = omega arith in
+    rw (← size) (value-below s (step value b) (k + 1) more both.1)
+
+pub digits-below : (s : List ℕ) → list_all is_digit s ≡ true → value_of_digits s < 10 ^ length s
+digits-below s e = subst (λ (k : ℕ). value_of_digits s < 10 ^ k) (omega arith) (value-below s 0 0 (omega arith) e)
+
+-- what a loop has read of a few digits
+pub few_more : (s : List ℕ) (i : ℕ) → i < length s → length s ≤ 9 → list_all is_digit (take i s) ≡ true → value_of_digits (take i s) < 10 ^ 8
+few_more s i h few e = omega (arith, digits-below (take i s) e, length-take i s, pow-le-pow_right {n = 10} (omega arith) {i = length (take i s)} {j = 8} (omega (arith, length-take i s)))
+
+-- ---- the zeros of a number
+
+front_value-more : (s : List ℕ) (b : ℕ) → value_of_digits s ≡ value_of_digits (front_of s) * 10 ^ zeros_after s → value_of_digits (s ++ b ∷ []) ≡ value_of_digits (front_of (s ++ b ∷ [])) * 10 ^ zeros_after (s ++ b ∷ [])
+front_value-more s b h =
+    let longer = length-append s (b ∷ []) in
+    let whole : value_of_digits (s ++ b ∷ []) ≡ 10 * value_of_digits s + (b - 48) = fold_push step 0 s b in
+    elim (cases_Bool (b == 48)) [
+      | inl zero ↦
+          let more : zeros_after (s ++ b ∷ []) ≡ zeros_after s + 1 = zeros_after-more s b ∙ rw zero (omega arith) in
+          let size : length (s ++ b ∷ []) - zeros_after (s ++ b ∷ []) ≡ length s - zeros_after s = omega (arith, more, longer) in
+          let front : front_of (s ++ b ∷ []) ≡ front_of s = ap (λ (k : ℕ). take k (s ++ b ∷ [])) size ∙ take-append-le (length s - zeros_after s) s (b ∷ []) (omega arith) in
+          rw (front, more, ten_more (zeros_after s)) (whole ∙ omega (arith, h, eqb-true b 48 zero))
+      | inr other ↦
+          let none : zeros_after (s ++ b ∷ []) ≡ 0 = zeros_after-more s b ∙ rw other refl in
+          let front : front_of (s ++ b ∷ []) ≡ s ++ b ∷ [] = take_all (length (s ++ b ∷ []) - zeros_after (s ++ b ∷ [])) (s ++ b ∷ []) (omega (arith, none)) in
+          rw (front, none) (omega arith)
+    ]
+
+front_value-reversed : (r : List ℕ) → value_of_digits (reverse r) ≡ value_of_digits (front_of (reverse r)) * 10 ^ zeros_after (reverse r)
+front_value-reversed [] = refl
+front_value-reversed (b ∷ r) = rw (reverse-append (b ∷ []) r) (front_value-more (reverse r) b (front_value-reversed r))
+
+pub front_value : (s : List ℕ) → value_of_digits s ≡ value_of_digits (front_of s) * 10 ^ zeros_after s
+front_value s = subst (λ (x : List ℕ). value_of_digits x ≡ value_of_digits (front_of x) * 10 ^ zeros_after x) (reverse-reverse s) (front_value-reversed (reverse s))
+
+shorter_value : (s : List ℕ) → value_of_digits (shorter s) ≡ value_of_digits s
+shorter_value [] = refl
+shorter_value (c ∷ s) = elim (cases_Bool (c == 48)) [
+  | inl zero ↦ let nothing : 0 ≡ 10 * 0 + (c - 48) = omega (arith, eqb-true c 48 zero) in rw (shorter-cons c s, zero) (shorter_value s ∙ ap (λ (value : ℕ). fold step value s) nothing)
+  | inr other ↦ rw (shorter-cons c s, other) refl
+]
+
+-- ---- a number of digits alone
+
+no_value : (s : List ℕ) → length s ≡ 0 → value_of_digits s ≡ 0
+no_value [] e = refl
+no_value (b ∷ s) e = absurd (omega arith)
+
+decimal_whole : (s : List ℕ) → length s ≤ 18 → worth_of_decimal (record { digits = s; scale = pos 0 }) ≡ ratio (pos (value_of_digits s)) (pos 1) false false
+decimal_whole s h =
+    let zeros = zeros_after (shorter s) in
+    let inner = inner_digits s in
+    let whole : value_of_digits s ≡ value_of_digits inner * 10 ^ zeros = sym (shorter_value s) ∙ front_value (shorter s) in
+    let size : length inner ≡ min (length (shorter s) - zeros) (length (shorter s)) = length-take (length (shorter s) - zeros) (shorter s) in
+    elim (cases_Bool (length inner == 0)) [
+      | inl none ↦
+          let nothing : 0 ≡ value_of_digits s = let e = no_value inner (eqb-true (length inner) 0 none) in sym (whole ∙ rw e (zero-mul (10 ^ zeros))) in
+          rw none (ap (λ (n : ℕ). ratio (pos n) (pos 1) false false) nothing)
+      | inr some ↦
+          let above = eqb-false (length inner) 0 some in
+          let same : zeros_after s ≡ zeros = zeros_after-shorter s (omega (arith, size, above)) in
+          let scale : pos 0 +ℤ pos (zeros_after s) ≡ pos zeros = omega (arith, ints) in
+          let short : nat_lt 18 (length inner) ≡ false = le-ltb 18 (length inner) (omega (arith, size, length-drop (zeros_before s) s)) in
+          let value : if_short inner (pos zeros) ≡ ratio (pos (value_of_digits s)) (pos 1) false false = rw short (ap (λ (n : ℕ). ratio (pos n) (pos 1) false false) (sym whole)) in
+          rw some (ap (if_short inner) scale ∙ value)
+    ]
+
+all-run : (s : List ℕ) → list_all is_digit s ≡ true → prefix_len is_digit s ≡ length s
+all-run [] e = refl
+all-run (b ∷ s) e = let both = and_parts (is_digit b) (list_all is_digit s) e in rw (both.0, all-run s both.1) (omega arith)
+
+digits-decimal : (s : List ℕ) → list_all is_digit s ≡ true → decimal_at s ≡ record { what = record { digits = s; scale = pos 0 }; rest = [] }
+digits-decimal s e =
+    let taken : take (prefix_len is_digit s) s ≡ s = take_all (prefix_len is_digit s) s (omega (arith, all-run s e)) in
+    let left : drop (prefix_len is_digit s) s ≡ [] = drop_all (prefix_len is_digit s) s (omega (arith, all-run s e)) in
+    rw (taken, left, append-nil s) refl
+
+begins : (b : ℕ) (s : List ℕ) → is_digit b ≡ true → begins_decimal (b ∷ s) ≡ true
+begins b [] e = e
+begins b (c ∷ s) e = rw e refl
+
+-- ---- a word of digits alone, or with a sign
+
+record IsFew (s : List ℕ) (n : ℕ) : Type 0 where
+  some : 0 < length s
+  few : length s ≤ 9
+  digits : list_all is_digit s ≡ true
+  value : value_of_digits s ≡ n
+
+few_parts : (s : List ℕ) (n : ℕ) → few_digits s ≡ Some n → IsFew s n
+few_parts s n e = elim (cases_Bool (length s == 0)) [
+  | inl none ↦ absurd (none-some n (rw none at e))
+  | inr some ↦ elim (cases_Bool (nat_lt 9 (length s))) [
+    | inl many ↦ absurd (none-some n (rw (some, many) at e))
+    | inr few ↦ elim (cases_Bool (list_all is_digit s)) [
+      | inl digits ↦
+          let above = eqb-false (length s) 0 some in
+          let value : Some (value_of_digits s) ≡ Some n = rw (some, few, digits) at e in
+          record { some = omega (arith, above); few = ltb-false 9 (length s) few; digits = digits; value = cc }
+      | inr other ↦ absurd (none-some n (rw (some, few, other) at e))
+    ]
+  ]
+]
+
+module _ (params : List Param) (word : List ℕ) (negative : Bool) (n : ℕ) where
+  few_read : (s : List ℕ) → IsSigned word s negative → IsFew s n → signed negative (ratio (pos n) (pos 1) false false) ≡ evaluated params word
+  few_read [] signs few = absurd (omega (arith, few.some))
+  few_read (b ∷ s) signs few =
+      let decimal = digits-decimal (b ∷ s) few.digits in
+      let value : ratio (pos n) (pos 1) false false ≡ worth_of_decimal (decimal_at (b ∷ s)).what =
+      sym (ap (λ (read : Read Decimal). worth_of_decimal read.what) decimal ∙ decimal_whole (b ∷ s) (omega (arith, few.few)) ∙ ap (λ (k : ℕ). ratio (pos k) (pos 1) false false) few.value) in
+      let read = number_read 0 params (b ∷ s) [] (ratio (pos n) (pos 1) false false) (begins b s (and_parts (is_digit b) (list_all is_digit s) few.digits).0) value (sym (ap (λ (read : Read Decimal). read.rest) decimal)) in
+      word_whole params word _ (expr_first 0 params word [] _ (term_first 0 params word [] _ (factor_reads 0 params word (b ∷ s) [] negative _ signs read)))
+
+few_small : (s : List ℕ) (n : ℕ) → IsFew s n → n ≤ 2 ^ 62
+few_small s n few = omega (arith, few.few, few.value, digits-below s few.digits, pow-le-pow_right {n = 10} (omega arith) few.few)
+
+opposite-whole : (n : ℕ) → n ≤ 2 ^ 62 → ratio (neg_ℤ (pos n)) (pos 1) false false ≡ signed true (ratio (pos n) (pos 1) false false)
+opposite-whole n h = ratio-whole (neg_ℤ (pos n)) (omega (arith, ints)) ∙ sym (ap (signed true) (ratio-whole (pos n) h))
+
+mapped : (f : ℕ → ℤ) (o : Option ℕ) (z : ℤ) → option_map f o ≡ Some z → (n : ℕ) × (o ≡ Some n) × (f n ≡ z)
+mapped f None z e = absurd (none-some z e)
+mapped f (Some n) z e = (n, refl, cc)
+
+pub plain_word : (params : List Param) (word : List ℕ) (z : ℤ) → plain_number word ≡ Some z → ratio z (pos 1) false false ≡ evaluated params word
+plain_word params [] z e = absurd (none-some z e)
+plain_word params (b ∷ s) z e = elim (cases_Bool (b == 45)) [
+  | inl minus ↦
+      let part = mapped (λ n. neg_ℤ (pos n)) (few_digits s) z (rw minus at e) in
+      let few = few_parts s part.0 part.1 in
+      let signs = signs_more (b ∷ s) (b ∷ s) s false Minus (signs_none (b ∷ s)) (ap (λ (c : ℕ). c ∷ s) (eqb-true b 45 minus)) in
+      rw (← part.2) (opposite-whole part.0 (few_small s part.0 few) ∙ few_read params (b ∷ s) true part.0 s signs few)
+  | inr other ↦
+      let part = mapped pos (few_digits (b ∷ s)) z (rw other at e) in
+      rw (← part.2) (few_read params (b ∷ s) false part.0 (b ∷ s) (signs_none (b ∷ s)) (few_parts (b ∷ s) part.0 part.1))
+]
