@@ -88,7 +88,7 @@ pub no_bytes : (line : List ℕ) → (length line == 0) ≡ true → line ≡ []
 no_bytes [] e = refl
 no_bytes (b ∷ line) e = absurd (grind (arith, nat_tests, e))
 
-abbrev is_lf : ℕ → Bool
+abbrev pub is_lf : ℕ → Bool
 is_lf b = b == 10
 
 -- where the first LF of a text stands
