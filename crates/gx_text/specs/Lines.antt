@@ -48,6 +48,7 @@ abbrev pub fault_at : ℕ → List ℕ → Option ℕ → Option LineFault
 fault_at number line None = if nat_lt MAX_LINE (length line) then Some (LongLine number) else None
 fault_at number line (Some place) = if nat_lt place MAX_LINE then Some (NotAscii number (place + 1)) else Some (LongLine number)
 
+-- the first fault of a line, if it has one
 abbrev pub fault_of : ℕ → List ℕ → Option LineFault
 fault_of number line = fault_at number line (position (λ b. not (is_allowed b)) (visible_of line))
 
@@ -61,5 +62,6 @@ abbrev pub ended_with : ℕ → List ℕ → Option LineFault → Result (Option
 ended_with number line (Some fault) = Err fault
 ended_with number line None = Ok (line_of number (words_of line))
 
+-- a line by its number and its bytes without the LF
 abbrev pub ended : ℕ → List ℕ → Result (Option TextLine) LineFault
 ended number line = ended_with number line (fault_of number line)
