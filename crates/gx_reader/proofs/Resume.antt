@@ -1,53 +1,24 @@
--- Reading byte by byte: what is left of the text makes of what was declared so far what the whole text declares.
-use Rattle.std.proofs.Common.{◌≡◌, ◌≢◌, ℕ, ◌+◌, ◌≤◌, Bool, true, false, cond, List, [], ◌∷◌, ◌++◌, Option, None, Some, Result, Ok, Err, refl, sym, ap, ◌∙◌, subst, arith, append_assoc, append-nil}
-use Rattle.std.specs.Prelude.{◌==◌}
-use Rattle.std.specs.List.{onto_first}
+-- Reading line by line: what is left of the text makes of what was declared so far what the whole text declares.
+use Rattle.std.proofs.Common.{◌≡◌, ◌≢◌, ℕ, ◌+◌, ◌<◌, ◌≤◌, true, false, cond, List, [], ◌∷◌, ◌++◌, length, drop, take, Option, None, Some, Result, Ok, Err, refl, sym, ap, ◌∙◌, subst, arith, append_assoc, append-nil, length-append, length-take}
+use Rattle.std.specs.Prelude.{◌==◌, position}
+use Rattle.std.specs.Io.BufRead.{take_through}
+use Rattle.std.proofs.Math.Seq.{drop-length}
+use Rattle.std.proofs.lemmas.List.Elements.{All-append}
+use Rattle.std.proofs.lemmas.List.Splits.{slice_split_at, slice_split_none}
 use Rattle.gx_fraction.specs.Fraction.{Fraction}
 use Rattle.gx_text.specs.declared.lines.LineFault.{LineFault}
 use Rattle.gx_text.specs.declared.lines.LineFault.TheVariants.{LongLine, NotAscii, NoMemory}
 use Rattle.gx_text.specs.TextLine.{TextLine}
 use Rattle.gx_text.specs.Lines.{cut, ended, ended_with, fault_of}
-use Rattle.gx_text.specs.State.{State, Step, after_byte, after_byte_from, answer_so_far, at_end, at_end_from, next_line, longer}
-use Rattle.gx_text.proofs.FaultLemmas.{fault_stays}
+use Rattle.gx_text.specs.ScannerState.{ScannerState, Step, ending, going_on, number_after, after_bytes, Answers, AnswersEnd}
+use Rattle.gx_text.specs.ScannerState.ScannerState.{Scanning, Failed}
+use Rattle.gx_text.proofs.StepLemmas.{HasNoLf, first_lf, no_lf, is_lf, after_part, after_line}
 use Rattle.gx_reader.specs.declared.fault.TextFault.{TextFault}
 use Rattle.gx_reader.specs.declared.fault.ReadError.{ReadError}
 use Rattle.gx_reader.specs.declared.fault.ReadError.TheVariants.{Text, NoMemory as NoReadMemory}
 use Rattle.gx_reader.specs.Form.{Declarations}
 use Rattle.gx_reader.specs.Reading.{line_fault, with_line, and_then, read_lines, IsCause}
-use Rattle.gx_reader.specs.State.{resumed, Unended, Open, error_of}
-
-pub unended_more : (line : List ℕ) (b : ℕ) → Unended line → (b == 10) ≡ false → Unended (line ++ b ∷ [])
-unended_more [] b u e = (e, tt)
-unended_more (a ∷ line) b u e = (u.0, unended_more line b u.1 e)
-
--- a LF ends the line
-cut_line : (line rest : List ℕ) (b : ℕ) → Unended line → (b == 10) ≡ true → cut (line ++ b ∷ rest) ≡ line ∷ cut rest
-cut_line [] rest b u e = rw e refl
-cut_line (a ∷ line) rest b u e = rw u.0 (ap (onto_first a) (cut_line line rest b u.1 e))
-
--- the text's end ends it too
-cut_end : (line : List ℕ) → Unended line → cut line ≡ line ∷ []
-cut_end [] u = refl
-cut_end (b ∷ line) u = rw u.0 (ap (onto_first b) (cut_end line u.1))
-
--- what a line begins with is the front of the first line
-record Front (line rest : List ℕ) : Type 0 where
-  first : List ℕ
-  more : List (List ℕ)
-  is : cut (line ++ rest) ≡ (line ++ first) ∷ more
-
-cut_nonempty : (text : List ℕ) → (first : List ℕ) × (more : List (List ℕ)) × (cut text ≡ first ∷ more)
-cut_nonempty [] = ([], [], refl)
-cut_nonempty (b ∷ text) = elim (b == 10) as (λ t. (first : List ℕ) × (more : List (List ℕ)) × (cond t ([] ∷ cut text) (onto_first b (cut text)) ≡ first ∷ more)) [
-  | true ↦ ([], cut text, refl)
-  | false ↦ let r = cut_nonempty text in (b ∷ r.0, r.1, ap (onto_first b) r.2)
-]
-
-cut_front : (line rest : List ℕ) → Unended line → Front line rest
-cut_front [] rest u = let r = cut_nonempty rest in record { first = r.0; more = r.1; is = r.2 }
-cut_front (b ∷ line) rest u =
-    let r = cut_front line rest u.1 in
-    record { first = r.first; more = r.more; is = rw u.0 (ap (onto_first b) r.is) }
+use Rattle.gx_reader.specs.Resumed.{resumed, IsOpen, error_of}
 
 ok_same : {A E : Type 0} (a b : A) → ◌≡◌ {A = Result A E} (Ok a) (Ok b) → a ≡ b
 ok_same a b e = cc
@@ -58,81 +29,125 @@ ok_err a e q = cc
 err_same : {A E : Type 0} (a b : E) → ◌≡◌ {A = Result A E} (Err a) (Err b) → a ≡ b
 err_same a b e = cc
 
+pub through_le : (text : List ℕ) → length (take_through 10 text) ≤ length text
+through_le [] = omega arith
+through_le (b ∷ text) = elim (b == 10) as (λ t. length (cond t (b ∷ []) (b ∷ take_through 10 text)) ≤ length (b ∷ text)) [
+  | true ↦ omega arith
+  | false ↦ omega (arith, through_le text)
+]
+
 -- nothing more is to come
 pub no_more : (r : Result Declarations TextFault) → and_then r (λ d. Ok d) ≡ r
 no_more (Err fault) = refl
 no_more (Ok d) = refl
 
 module _ (grid : Fraction) (d : Declarations) where
-  -- how a byte goes on: the line that it ends is taken, and then the rest
-  pub record Goes (old : State) (b : ℕ) (rest : List ℕ) (o : Option TextLine) (new : State) : Type 0 where
-    pub same : resumed grid d old.number old.line (b ∷ rest) ≡ and_then (with_line grid d (Ok o)) (λ next. resumed grid next new.number new.line rest)
-    pub kept : Open new
-    pub number : new.number ≤ old.number + 1
+  -- what a line that was answered makes of the text: it is declared, and then what is left
+  pub record Goes (s : ScannerState) (text : List ℕ) (o : Option TextLine) (new : ScannerState) (rest : List ℕ) : Type 0 where
+    pub same : resumed grid d s text ≡ and_then (with_line grid d (Ok o)) (λ next. resumed grid next new rest)
+    pub kept : IsOpen (length rest) new
+    pub shorter : length rest < length text
 
-  module _ (s : State) (b : ℕ) (rest : List ℕ) (h : Open s) where
-    at_lf : (b == 10) ≡ true → resumed grid d s.number s.line (b ∷ rest) ≡ and_then (with_line grid d (ended s.number s.line)) (λ next. read_lines grid next (s.number + 1) (cut rest))
-    at_lf e = ap (λ parts. read_lines grid d s.number parts) (cut_line s.line rest b h.unended e)
+  -- a step of a text: its answer is a line, or the text's fault
+  record Steps (s : ScannerState) (text : List ℕ) (step : Step) (rest : List ℕ) : Type 0 where
+    goes : (o : Option TextLine) → step.answer ≡ Ok o → Goes s text o step.state rest
+    stops : (fault : LineFault) → step.answer ≡ Err fault → resumed grid d s text ≡ Err (line_fault fault)
 
-    goes_lf : (o : Option TextLine) → (b == 10) ≡ true → ended s.number s.line ≡ Ok o → Goes s b rest o (next_line s)
-    goes_lf o e answer = record {
-      same = at_lf e ∙ ap (λ r. and_then (with_line grid d r) (λ next. read_lines grid next (s.number + 1) (cut rest))) answer;
-      kept = record { fault = refl; unended = tt };
-      number = omega arith;
-    }
+  module _ (number : ℕ) (line : List ℕ) (text : List ℕ) (kept : IsOpen (length text) (Scanning number line)) (some : 0 < length text) where
+    -- a line that is ended by a LF
+    module _ (part rest : List ℕ) (clear : HasNoLf part) (whole : text ≡ part ++ 10 ∷ rest) where
+      lines_are : resumed grid d (Scanning number line) text ≡ and_then (with_line grid d (ended number (line ++ part))) (λ next. read_lines grid next (number + 1) (cut rest))
+      lines_are =
+          ap (λ bytes. read_lines grid d number (cut bytes)) (ap (λ bytes. line ++ bytes) whole ∙ sym (append_assoc line part (10 ∷ rest)))
+          ∙ ap (read_lines grid d number) (slice_split_at is_lf (line ++ part) 10 rest (All-append (λ b. (b == 10) ≡ false) line part kept.0 clear) refl)
 
-    goes_longer : (b == 10) ≡ false → Goes s b rest None (longer s b)
-    goes_longer e = record {
-      same = ap (λ text. read_lines grid d s.number (cut text)) (sym (append_assoc s.line (b ∷ []) rest));
-      kept = record { fault = refl; unended = unended_more s.line b h.unended e };
-      number = omega arith;
-    }
+      count : number_after number ≡ number + 1
+      count = omega (arith, kept.1)
 
-    stops_longer : (fault : LineFault) → (b == 10) ≡ false → fault_of s.number (s.line ++ b ∷ []) ≡ Some fault → resumed grid d s.number s.line (b ∷ rest) ≡ Err (line_fault fault)
-    stops_longer fault e found =
-        let line = s.line ++ b ∷ [] in
-        let front = cut_front line rest (unended_more s.line b h.unended e) in
-        ap (λ text. read_lines grid d s.number (cut text)) (sym (append_assoc s.line (b ∷ []) rest))
-        ∙ ap (λ parts. read_lines grid d s.number parts) front.is
-        ∙ ap (λ o. and_then (with_line grid d (ended_with s.number (line ++ front.first) o)) (λ next. read_lines grid next (s.number + 1) front.more)) (fault_stays s.number line front.first fault found)
+      size : length part + length rest + 1 ≡ length text
+      size = omega (arith, ap length whole, length-append part (10 ∷ rest))
 
-    stepped : Bool → Option LineFault → Step
-    stepped t o = cond t (record { answer = ended s.number s.line; state = next_line s }) (record { answer = answer_so_far o; state = longer s b })
+      ended_by : (r : Result (Option TextLine) LineFault) → ended number (line ++ part) ≡ r → Steps (Scanning number line) text (ending number r) rest
+      ended_by (Ok o) e = record {
+        goes = λ other is. record {
+          same = lines_are ∙ ap (λ r. and_then (with_line grid d r) (λ next. read_lines grid next (number + 1) (cut rest))) (e ∙ is)
+              ∙ ap (λ n. and_then (with_line grid d (Ok other)) (λ next. read_lines grid next n (cut rest))) (sym count);
+          kept = (λ k d h. absurd (omega arith), omega (arith, kept.1, count, size));
+          shorter = omega (arith, size);
+        };
+        stops = λ fault is. absurd (ok_err o fault is);
+      }
+      ended_by (Err fault) e = record {
+        goes = λ o is. absurd (ok_err o fault (sym is));
+        stops = λ other is. lines_are ∙ ap (λ r. and_then (with_line grid d r) (λ next. read_lines grid next (number + 1) (cut rest))) (e ∙ is);
+      }
 
-    goes_by : (t : Bool) (f : Option LineFault) → (b == 10) ≡ t → (o : Option TextLine) → (stepped t f).answer ≡ Ok o → Goes s b rest o (stepped t f).state
-    unfolding stepped
-    goes_by true f e o answer = goes_lf o e answer
-    goes_by false None e o answer = subst (λ k. Goes s b rest k (longer s b)) (ok_same None o answer) (goes_longer e)
-    goes_by false (Some fault) e o answer = absurd (ok_err o fault (sym answer))
+    -- the bytes before the text's end
+    module _ (clear : HasNoLf text) where
+      clear_line : HasNoLf (line ++ text)
+      clear_line = All-append (λ b. (b == 10) ≡ false) line text kept.0 clear
 
-    stops_by : (t : Bool) (f : Option LineFault) → (b == 10) ≡ t → fault_of s.number (s.line ++ b ∷ []) ≡ f → (fault : LineFault) → (stepped t f).answer ≡ Err fault
-        → resumed grid d s.number s.line (b ∷ rest) ≡ Err (line_fault fault)
-    unfolding stepped
-    stops_by true f e found fault answer = at_lf e ∙ ap (λ r. and_then (with_line grid d r) (λ next. read_lines grid next (s.number + 1) (cut rest))) answer
-    stops_by false None e found fault answer = absurd (ok_err None fault answer)
-    stops_by false (Some first) e found fault answer = stops_longer first e found ∙ ap (λ f. Err (line_fault f)) (err_same first fault answer)
+      last_line : resumed grid d (Scanning number line) text ≡ with_line grid d (ended number (line ++ text))
+      last_line = ap (read_lines grid d number) (slice_split_none is_lf (line ++ text) clear_line) ∙ no_more (with_line grid d (ended number (line ++ text)))
 
-    after_is : after_byte s b ≡ stepped (b == 10) (fault_of s.number (s.line ++ b ∷ []))
-    unfolding stepped
-    after_is = ap (λ f. after_byte_from f s b) h.fault
+      going : Goes (Scanning number line) text None (Scanning number (line ++ text)) []
+      going = record {
+        same = ap (λ bytes. read_lines grid d number (cut bytes)) (sym (append-nil (line ++ text)));
+        kept = (clear_line, omega (arith, kept.1));
+        shorter = some;
+      }
 
-    pub goes : (o : Option TextLine) (new : State) → (after_byte s b).answer ≡ Ok o → new ≡ (after_byte s b).state → Goes s b rest o new
-    goes o new answer is = rw (is, after_is) (goes_by _ _ refl o (rw after_is at answer))
+      last_by : (o : Option LineFault) → fault_of number (line ++ text) ≡ o → Steps (Scanning number line) text (going_on number (line ++ text) o) []
+      last_by None e = record {
+        goes = λ o is. subst (λ o. Goes (Scanning number line) text o (Scanning number (line ++ text)) []) (ok_same None o is) going;
+        stops = λ fault is. absurd (ok_err None fault is);
+      }
+      last_by (Some fault) e = record {
+        goes = λ o is. absurd (ok_err o fault (sym is));
+        stops = λ other is. last_line ∙ ap (λ o. with_line grid d (ended_with number (line ++ text) o)) e ∙ ap (λ f. Err (line_fault f)) (err_same fault other is);
+      }
 
-    pub stops : (fault : LineFault) → (after_byte s b).answer ≡ Err fault → resumed grid d s.number s.line (b ∷ rest) ≡ Err (line_fault fault)
-    stops fault answer = stops_by _ _ refl refl fault (rw after_is at answer)
+    resumes_by : (place : Option ℕ) → position is_lf text ≡ place
+        → Steps (Scanning number line) text (after_bytes (Scanning number line) (take_through 10 text)) (drop (length (take_through 10 text)) text)
+    resumes_by (Some end) e =
+        let first = first_lf text end e in
+        let part = take end text in
+        let count : length (part ++ 10 ∷ []) ≡ end + 1 = omega (arith, length-append part (10 ∷ []), length-take end text, first.within) in
+        rw (first.through, after_line number line part first.before, count) (ended_by part (drop (end + 1) text) first.before first.whole _ refl)
+    resumes_by None e =
+        let none = no_lf text e in
+        let part = after_part number line text (λ empty. absurd (omega (arith, ap length empty))) none.all in
+        rw (none.through, part, drop-length text) (last_by none.all _ refl)
 
-  module _ (s : State) (h : Open s) where
-    last : resumed grid d s.number s.line [] ≡ with_line grid d (ended s.number s.line)
-    last = ap (λ text. read_lines grid d s.number (cut text)) (append-nil s.line)
-        ∙ ap (λ parts. read_lines grid d s.number parts) (cut_end s.line h.unended)
-        ∙ no_more (with_line grid d (ended s.number s.line))
+  resumes : (s : ScannerState) (text : List ℕ) → IsOpen (length text) s → 0 < length text
+      → Steps s text (after_bytes s (take_through 10 text)) (drop (length (take_through 10 text)) text)
+  resumes (Failed fault) text kept some = absurd kept
+  resumes (Scanning number line) text kept some = resumes_by number line text kept some _ refl
 
-    end_is : at_end s ≡ ended s.number s.line
-    end_is = ap (λ f. at_end_from f s) h.fault
+  -- an answered line is declared, and then what is left
+  pub take_goes : (s : ScannerState) (text : List ℕ) (o : Option TextLine) (new : ScannerState) → IsOpen (length text) s → 0 < length text
+      → Answers s (after_bytes s (take_through 10 text)) new (Ok o) → Goes s text o new (drop (length (take_through 10 text)) text)
+  take_goes (Failed fault) text o new kept some answer = absurd kept
+  take_goes (Scanning number line) text o new kept some answer = rw answer.ok.1 ((resumes (Scanning number line) text kept some).goes o answer.ok.0)
 
-    pub ends : (r : Result (Option TextLine) LineFault) → at_end s ≡ r → resumed grid d s.number s.line [] ≡ with_line grid d r
-    ends r answer = last ∙ ap (with_line grid d) (sym end_is ∙ answer)
+  pub take_stops : (s : ScannerState) (text : List ℕ) (fault : LineFault) (new : ScannerState) → IsOpen (length text) s → 0 < length text
+      → Answers s (after_bytes s (take_through 10 text)) new (Err fault) → fault ≢ NoMemory → resumed grid d s text ≡ Err (line_fault fault)
+  take_stops (Failed first) text fault new kept some answer other = absurd kept
+  take_stops (Scanning number line) text fault new kept some answer other = (resumes (Scanning number line) text kept some).stops fault (answer.cause other)
+
+  end_is : (number : ℕ) (line : List ℕ) → HasNoLf line → resumed grid d (Scanning number line) [] ≡ with_line grid d (ended number line)
+  end_is number line clear =
+      ap (λ bytes. read_lines grid d number (cut bytes)) (append-nil line) ∙ ap (read_lines grid d number) (slice_split_none is_lf line clear)
+      ∙ no_more (with_line grid d (ended number line))
+
+  -- the text's end
+  pub ends : (s : ScannerState) (o : Option TextLine) → IsOpen 0 s → AnswersEnd s (Ok o) → resumed grid d s [] ≡ with_line grid d (Ok o)
+  ends (Failed fault) o kept answer = absurd kept
+  ends (Scanning number line) o kept answer = end_is number line kept.0 ∙ ap (with_line grid d) answer.0
+
+  pub end_stops : (s : ScannerState) (fault : LineFault) → IsOpen 0 s → AnswersEnd s (Err fault) → fault ≢ NoMemory → resumed grid d s [] ≡ Err (line_fault fault)
+  end_stops (Failed first) fault kept answer other = absurd kept
+  end_stops (Scanning number line) fault kept answer other = end_is number line kept.0 ∙ ap (with_line grid d) (answer.1 other)
 
 -- a line's fault is the text's, unless memory is wanting
 pub cause_of : {A : Type 0} (fault : LineFault) (read : Result A TextFault) → (fault ≢ NoMemory → read ≡ Err (line_fault fault)) → IsCause read (error_of fault)

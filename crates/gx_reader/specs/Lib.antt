@@ -4,5 +4,5 @@ pub mod Judge
 pub mod Left
 pub mod Rays
 pub mod Reading
+pub mod Resumed
 pub mod SoFar
-pub mod State

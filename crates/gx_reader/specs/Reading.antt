@@ -9,15 +9,12 @@ use Rattle.gx_text.specs.declared.lines.LineFault.TheVariants.{LongLine, NotAsci
 use Rattle.gx_text.specs.TextLine.{TextLine}
 use Rattle.gx_text.specs.Lines.{cut, ended}
 use Rattle.gx_tree.specs.World.{World}
+use Rattle.gx_reader.specs.declared.read.TheConstants.{MAX_TEXT}
 use Rattle.gx_reader.specs.declared.fault.TextFault.{TextFault}
 use Rattle.gx_reader.specs.declared.fault.ReadError.{ReadError}
 use Rattle.gx_reader.specs.declared.fault.ReadError.TheVariants.{Text, NoMemory}
 use Rattle.gx_reader.specs.declared.input.Input.{Input}
 use Rattle.gx_reader.specs.Form.{Declarations, nothing_declared, declare}
-
--- the most bytes of a text, 2^26
-abbrev pub most_bytes : ℕ
-most_bytes = 67108864
 
 abbrev pub fault_at : ℕ → ℕ → FaultName → TextFault
 fault_at line word name = record { line = line; word = word; name = name }
@@ -51,7 +48,7 @@ input_of (Some world) rays = Ok (record { tree = world; rays = rays })
 -- the input that a text declares, or its first fault; lengths are in steps of the grid
 abbrev pub reading : Fraction → List ℕ → Result Input TextFault
 reading grid text =
-    if nat_lt most_bytes (length text) then Err (fault_at 0 0 LongText)
+    if nat_lt MAX_TEXT (length text) then Err (fault_at 0 0 LongText)
     else and_then (read_lines grid nothing_declared 1 (cut text)) (λ d. input_of d.world d.rays)
 
 -- the cause of a reader's error: the text's fault; want of memory has none

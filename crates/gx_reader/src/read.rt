@@ -1,7 +1,8 @@
-ghost use Rattle.std.specs.Prelude.{◌≡◌, ℕ, ◌+◌, ◌-◌, ◌^◌, ◌<◌, ◌≤◌, List, [], ◌∷◌, IfOk, IfErr, OnOk, Ok};
+ghost use Rattle.std.specs.Prelude.{◌≡◌, ◌<◌, [], length, IfOk, IfErr, OnOk, Ok};
 ghost use Rattle.gx_reader.specs.Form.{nothing_declared};
 ghost use Rattle.gx_reader.specs.Reading.{reading, with_line, and_then, input_of, IsCause};
-ghost use Rattle.gx_reader.specs.State.{Open};
+ghost use Rattle.gx_reader.specs.Resumed.{IsOpen};
+ghost use Rattle.gx_text.specs.ScannerState.ScannerState.{Scanning};
 ghost use Rattle.gx_reader.specs.Left.{left_by};
 
 use crate::declared::Declared;
@@ -17,7 +18,7 @@ pub const MAX_TEXT: usize = 67108864;
 
 impl From<LineFault> for ReadError {
     ghost use Rattle.std.specs.Prelude.{◌≡◌};
-    ghost use Rattle.gx_reader.specs.State.{error_of};
+    ghost use Rattle.gx_reader.specs.Resumed.{error_of};
 
     ghost from_gives = { λ fault e. e ≡ error_of fault };
 
@@ -38,7 +39,7 @@ fn text_fault(line: u32, word: u32, name: FaultName) -> ReadError
     ReadError::Text(TextFault { line, word, name })
 }
 
-/// A text that is read byte by byte.
+/// A text that is read line by line.
 #[derive(Drop)]
 struct Reading {
     lines: Lines,
@@ -47,9 +48,7 @@ struct Reading {
 
 impl Reading {
     fn new(alloc: Global, grid: Grid) -> Reading
-        ensures number { result.lines.number ≡ 1 }
-        ensures line { result.lines.line ≡ [] }
-        ensures kept { Open result.lines }
+        ensures lines { result.lines ≡ Scanning 1 [] }
         ensures grid { result.declared.grid ≡ grid }
         ensures nothing { result.declared.so_far ≡ nothing_declared }
     {
@@ -59,38 +58,43 @@ impl Reading {
         }
     }
 
-    fn take(&mut self, byte: u8) -> Result<(), ReadError>
-        requires kept { Open self.old.lines }
-        requires number { self.old.lines.number < 2 ^ 32 - 1 }
-        ensures ok { OnOk result ((rest : List ℕ) → left_by self.new rest ≡ left_by self.old (byte ∷ rest)) }
-        ensures kept { OnOk result (Open self.new.lines) }
-        ensures number { OnOk result (self.new.lines.number ≤ self.old.lines.number + 1) }
-        ensures err { IfErr result (λ e. (rest : List ℕ) → IsCause (left_by self.old (byte ∷ rest)) e) }
+    // Takes the next line of a text, or the bytes before its end, and gives what is left.
+    fn take<'a>(&mut self, text: &'a [u8]) -> Result<&'a [u8], ReadError>
+        requires some { 0 < length text.now }
+        requires kept { IsOpen (length text.now) self.old.lines }
+        ensures ok { IfOk result (λ rest. left_by self.new rest.now ≡ left_by self.old text.now) }
+        ensures kept { IfOk result (λ rest. IsOpen (length rest.now) self.new.lines) }
+        ensures shorter { IfOk result (λ rest. length rest.now < length text.now) }
+        ensures err { IfErr result (IsCause (left_by self.old text.now)) }
     {
-        match self.lines.push(byte)? {
-            Some(line) => self.declared.take(&line),
-            None => Ok(()),
-        }
+        let (count, line) = self.lines.take(text)?;
+        declare(&mut self.declared, line)?;
+        Ok(&text[count..])
     }
 
     fn finish(self) -> Result<Input, ReadError>
-        requires { Open self.lines }
+        requires { IsOpen 0 self.lines }
         ensures ok { IfOk result (λ input. and_then (left_by self []) (λ d. input_of d.world d.rays) ≡ Ok input) }
         ensures err { IfErr result (IsCause (and_then (left_by self []) (λ d. input_of d.world d.rays))) }
     {
-        let Reading { lines, declared } = self;
-        finish(lines.finish()?, declared)
+        let Reading {
+            lines,
+            mut declared,
+        } = self;
+        declare(&mut declared, lines.finish()?)?;
+        declared.finish()
     }
 }
 
-fn finish(line: Option<Line>, mut declared: Declared) -> Result<Input, ReadError>
-    ensures ok { IfOk result (λ input. and_then (with_line declared.grid declared.so_far (Ok line)) (λ d. input_of d.world d.rays) ≡ Ok input) }
-    ensures err { IfErr result (IsCause (and_then (with_line declared.grid declared.so_far (Ok line)) (λ d. input_of d.world d.rays))) }
+fn declare(declared: &mut Declared, line: Option<Line>) -> Result<(), ReadError>
+    ensures grid { declared.new.grid ≡ declared.old.grid }
+    ensures ok { OnOk result (with_line declared.old.grid declared.old.so_far (Ok line) ≡ Ok declared.new.so_far) }
+    ensures err { IfErr result (IsCause (with_line declared.old.grid declared.old.so_far (Ok line))) }
 {
-    if let Some(line) = line {
-        declared.take(&line)?;
+    match line {
+        Some(line) => declared.take(&line),
+        None => Ok(()),
     }
-    declared.finish()
 }
 
 /// Reads a whole text, with lengths in steps of the grid: the input that it declares, or its first fault.
@@ -102,8 +106,9 @@ pub fn read_text(alloc: Global, grid: &Grid, text: &[u8]) -> Result<Input, ReadE
         return Err(text_fault(0, 0, FaultName::LongText));
     }
     let mut reading = Reading::new(alloc, *grid);
-    for byte in text {
-        reading.take(*byte)?;
+    let mut rest = text;
+    while !rest.is_empty() {
+        rest = reading.take(rest)?;
     }
     reading.finish()
 }

@@ -1,5 +1,5 @@
 -- A line's fault stays when the line goes on, and which bytes can bring one.
-use Rattle.std.proofs.Common.{◌≡◌, ℕ, suc, ◌+◌, ◌-◌, ◌<◌, ◌≤◌, Bool, true, false, cond, List, [], ◌∷◌, ◌++◌, length, take, drop, Option, None, Some, refl, sym, ap, ◌∙◌, arith, append_assoc, append-nil, length-append}
+use Rattle.std.proofs.Common.{◌≡◌, ℕ, suc, ◌+◌, ◌-◌, ◌<◌, ◌≤◌, Bool, true, false, cond, List, [], ◌∷◌, ◌++◌, length, get_or, take, drop, Option, None, Some, refl, sym, ap, ◌∙◌, arith, append_assoc, append-nil, length-append}
 use Rattle.std.specs.Prelude.{position, not, nat_lt, ◌==◌, ◌&&◌, ◌||◌, slice_index}
 use Rattle.std.specs.List.{position_or_len}
 use Rattle.std.specs.Option.{option_map}
@@ -10,8 +10,9 @@ use Rattle.std.proofs.Math.ListN.{drop_of_length-le}
 use Rattle.std.proofs.Math.Seq.{take-append_seam}
 use Rattle.gx_text.specs.declared.lines.LineFault.{LineFault}
 use Rattle.gx_text.specs.declared.lines.LineFault.TheVariants.{LongLine}
-use Rattle.gx_text.specs.Lines.{begins_comment, before_comment, fault_at, fault_of, most, is_allowed}
-use Rattle.gx_text.specs.Unended.{has_comment, ends, brings_nothing}
+use Rattle.gx_text.specs.declared.lines.TheConstants.{MAX_LINE}
+use Rattle.gx_text.specs.Lines.{begins_comment, before_comment, visible_of, fault_at, fault_of, is_allowed}
+use Rattle.gx_text.specs.PartialLine.{has_comment, ends, brings_nothing}
 
 abbrev bad : ℕ → Bool
 bad b = not (is_allowed b)
@@ -33,12 +34,12 @@ later q b rest = ap (λ t. cond t (Some (1 + q)) None) (suc_lt q b rest) ∙ eli
   | false ↦ refl
 ]
 
-position_cons : (b : ℕ) (rest : List ℕ) → position bad (b ∷ rest) ≡ cond (bad b) (Some 0) (option_map (λ n. 1 + n) (position bad rest))
-position_cons b rest =
-    elim (bad b) as (λ t. cond (nat_lt (cond (not t) (1 + position_or_len bad rest) 0) (length (b ∷ rest))) (Some (cond (not t) (1 + position_or_len bad rest) 0)) None
-    ≡ cond t (Some 0) (option_map (λ n. 1 + n) (position bad rest))) [
+pub position_cons : (p : ℕ → Bool) (b : ℕ) (rest : List ℕ) → position p (b ∷ rest) ≡ cond (p b) (Some 0) (option_map (λ n. 1 + n) (position p rest))
+position_cons p b rest =
+    elim (p b) as (λ t. cond (nat_lt (cond (not t) (1 + position_or_len p rest) 0) (length (b ∷ rest))) (Some (cond (not t) (1 + position_or_len p rest) 0)) None
+    ≡ cond t (Some 0) (option_map (λ n. 1 + n) (position p rest))) [
       | true ↦ ap (λ t. cond t (Some 0) None) (zero_lt b rest)
-      | false ↦ later (position_or_len bad rest) b rest
+      | false ↦ later (position_or_len p rest) b rest
     ]
 
 scan_is : (line : List ℕ) → position bad (before_comment line) ≡ scan line
@@ -46,7 +47,7 @@ scan_is [] = refl
 scan_is (b ∷ rest) =
     elim (begins_comment (b ∷ rest)) as (λ t. position bad (cond t [] (b ∷ before_comment rest)) ≡ cond t None (cond (bad b) (Some 0) (option_map (λ n. 1 + n) (scan rest)))) [
       | true ↦ refl
-      | false ↦ position_cons b (before_comment rest) ∙ ap (λ o. cond (bad b) (Some 0) (option_map (λ n. 1 + n) o)) (scan_is rest)
+      | false ↦ position_cons bad b (before_comment rest) ∙ ap (λ o. cond (bad b) (Some 0) (option_map (λ n. 1 + n) o)) (scan_is rest)
     ]
 
 slash_allowed : (b : ℕ) → bad b ≡ true → (b == 47) ≡ false
@@ -57,15 +58,15 @@ no_comment b [] e = refl
 no_comment b (c ∷ rest) e = rw (slash_allowed b e) refl
 
 -- a place is past 0, or there is none
-one_back : (o : Option ℕ) (q : ℕ) → option_map (λ n. 1 + n) o ≡ Some q → (p : ℕ) × (o ≡ Some p) × (q ≡ 1 + p)
+pub one_back : (o : Option ℕ) (q : ℕ) → option_map (λ n. 1 + n) o ≡ Some q → (p : ℕ) × (o ≡ Some p) × (q ≡ 1 + p)
 one_back None q e = absurd cc
 one_back (Some p) q e = (p, refl, cc)
 
-none_back : (o : Option ℕ) → option_map (λ n. 1 + n) o ≡ None → o ≡ None
+pub none_back : (o : Option ℕ) → option_map (λ n. 1 + n) o ≡ None → o ≡ None
 none_back None e = refl
 none_back (Some p) e = absurd cc
 
-none_some : {A : Type 0} (a : A) → None ≡ Some a → ⊥
+pub none_some : {A : Type 0} (a : A) → None ≡ Some a → ⊥
 none_some a e = cc
 
 -- the scan by its two tests
@@ -224,14 +225,14 @@ stripped line = stripped_by line _ refl
 fault_is : (number : ℕ) (line : List ℕ) → fault_of number line ≡ fault_at number line (scan (strip_carriage_return line))
 fault_is number line = ap (fault_at number line) (scan_is (strip_carriage_return line))
 
-stays_long : (number : ℕ) (line : List ℕ) (b : ℕ) (o : Option ℕ) → nat_lt most (length line) ≡ true
+stays_long : (number : ℕ) (line : List ℕ) (b : ℕ) (o : Option ℕ) → nat_lt MAX_LINE (length line) ≡ true
     → ((q : ℕ) → o ≡ Some q → length line ≤ q + 1) → fault_at number (line ++ b ∷ []) o ≡ Some (LongLine number)
 stays_long number line b None e miss =
-    let long : nat_lt most (length (line ++ b ∷ [])) ≡ true = grind (arith, nat_tests, e, length-append line (b ∷ [])) in rw long refl
+    let long : nat_lt MAX_LINE (length (line ++ b ∷ [])) ≡ true = grind (arith, nat_tests, e, length-append line (b ∷ [])) in rw long refl
 stays_long number line b (Some q) e miss =
-    let far : nat_lt q most ≡ false = grind (arith, nat_tests, e, miss q refl) in rw far refl
+    let far : nat_lt q MAX_LINE ≡ false = grind (arith, nat_tests, e, miss q refl) in rw far refl
 
-stays_none : (number : ℕ) (line : List ℕ) (b : ℕ) (fault : LineFault) (o : Option ℕ) (t : Bool) → nat_lt most (length line) ≡ t
+stays_none : (number : ℕ) (line : List ℕ) (b : ℕ) (fault : LineFault) (o : Option ℕ) (t : Bool) → nat_lt MAX_LINE (length line) ≡ t
     → ((q : ℕ) → o ≡ Some q → length line ≤ q + 1) → cond t (Some (LongLine number)) None ≡ Some fault → fault_at number (line ++ b ∷ []) o ≡ Some fault
 stays_none number line b fault o false e miss h = absurd (none_some fault h)
 stays_none number line b fault o true e miss h = stays_long number line b o e miss ∙ h
@@ -255,6 +256,16 @@ pub fault_stays : (number : ℕ) (line rest : List ℕ) (fault : LineFault) → 
 fault_stays number line [] fault h = ap (fault_of number) (append-nil line) ∙ h
 fault_stays number line (b ∷ rest) fault h =
     ap (fault_of number) (sym (append_assoc line (b ∷ []) rest)) ∙ fault_stays number (line ++ b ∷ []) rest fault (fault_stays_one number line b fault h)
+
+-- a fault that one of more bytes decides
+pub fault_within : (number : ℕ) (line bytes : List ℕ) (i : ℕ) (fault : LineFault) → i < length bytes → fault_of number ((line ++ take i bytes) ++ get_or bytes i 0 ∷ []) ≡ Some fault
+    → fault_of number (line ++ bytes) ≡ Some fault
+fault_within number line bytes i fault h found =
+    let b = get_or bytes i 0 in
+    let whole : ((line ++ take i bytes) ++ b ∷ []) ++ drop (i + 1) bytes ≡ line ++ bytes =
+    append_assoc (line ++ take i bytes) (b ∷ []) (drop (i + 1) bytes) ∙ ap (λ rest. (line ++ take i bytes) ++ rest) (sym (drop_more bytes i 0 h))
+    ∙ append_assoc line (take i bytes) (drop i bytes) ∙ ap (λ rest. line ++ rest) (take-append-drop i bytes) in
+    ap (fault_of number) (sym whole) ∙ fault_stays number ((line ++ take i bytes) ++ b ∷ []) (drop (i + 1) bytes) fault found
 
 no_place : (number : ℕ) (line : List ℕ) (o : Option ℕ) → fault_at number line o ≡ None → o ≡ None
 no_place number line None e = refl
@@ -291,9 +302,16 @@ clear_by line b true n h e = clear_comment line b n h
 clear_by line b false n h e = clear_plain line b n (both (is_allowed b) (ends line 13) e)
 
 -- a byte in a comment, or one that is allowed and doesn't follow a CR, brings no fault but a long line's
-pub clear : (number : ℕ) (line : List ℕ) (b : ℕ) → fault_of number line ≡ None → length (line ++ b ∷ []) ≤ most
+pub clear : (number : ℕ) (line : List ℕ) (b : ℕ) → fault_of number line ≡ None → length (line ++ b ∷ []) ≤ MAX_LINE
     → brings_nothing line b ≡ true → fault_of number (line ++ b ∷ []) ≡ None
 clear number line b h few e =
     let n = no_place number line (scan (strip_carriage_return line)) (sym (fault_is number line) ∙ h) in
-    let short : nat_lt most (length (line ++ b ∷ [])) ≡ false = grind (arith, nat_tests) in
+    let short : nat_lt MAX_LINE (length (line ++ b ∷ [])) ≡ false = grind (arith, nat_tests) in
     fault_is number (line ++ b ∷ []) ∙ ap (fault_at number (line ++ b ∷ [])) (clear_by line b _ n refl e) ∙ rw short refl
+
+short_from : (number : ℕ) (line : List ℕ) (place : Option ℕ) → fault_at number line place ≡ None → length line ≤ MAX_LINE
+short_from number line None e = grind (arith, nat_tests)
+short_from number line (Some place) e = absurd (grind (arith, nat_tests))
+
+pub short : (number : ℕ) (line : List ℕ) → fault_of number line ≡ None → length line ≤ MAX_LINE
+short number line e = short_from number line (position bad (visible_of line)) e

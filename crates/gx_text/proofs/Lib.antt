@@ -1,3 +1,4 @@
 pub mod CommentLemmas
 pub mod FaultLemmas
-pub mod WordLemmas
+pub mod PlaceLemmas
+pub mod StepLemmas

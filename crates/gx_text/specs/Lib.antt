@@ -1,6 +1,7 @@
 pub mod Laws
 pub mod Lines
 pub mod Names
-pub mod State
+pub mod PartialLine
+pub mod Places
+pub mod ScannerState
 pub mod TextLine
-pub mod Unended

@@ -4,6 +4,7 @@ use Rattle.std.specs.List.{slice_split}
 use Rattle.std.specs.Str.Lines.{strip_carriage_return}
 use Rattle.gx_text.specs.declared.lines.LineFault.{LineFault}
 use Rattle.gx_text.specs.declared.lines.LineFault.TheVariants.{LongLine, NotAscii}
+use Rattle.gx_text.specs.declared.lines.TheConstants.{MAX_LINE}
 use Rattle.gx_text.specs.TextLine.{TextLine}
 
 -- the text cut at each LF; the last line may have none
@@ -34,19 +35,20 @@ abbrev pub visible_of : List ℕ → List ℕ
 visible_of line = before_comment (strip_carriage_return line)
 
 -- the longest runs of bytes that are neither blank nor tab
-abbrev pub words_of : List ℕ → List (List ℕ)
-words_of line = filter (λ word. not (length word == 0)) (slice_split is_blank (visible_of line))
+abbrev pub words_in : List ℕ → List (List ℕ)
+words_in text = filter (λ word. not (length word == 0)) (slice_split is_blank text)
 
--- the most bytes of a line
-abbrev pub most : ℕ
-most = 65536
+-- the words before a line's comment
+abbrev pub words_of : List ℕ → List (List ℕ)
+words_of line = words_in (visible_of line)
 
 -- The first of a line's faults: a byte that isn't allowed, at its column from 1, or the first byte past the most.
 -- Where both are one byte, the line is too long.
 abbrev pub fault_at : ℕ → List ℕ → Option ℕ → Option LineFault
-fault_at number line None = if nat_lt most (length line) then Some (LongLine number) else None
-fault_at number line (Some place) = if nat_lt place most then Some (NotAscii number (place + 1)) else Some (LongLine number)
+fault_at number line None = if nat_lt MAX_LINE (length line) then Some (LongLine number) else None
+fault_at number line (Some place) = if nat_lt place MAX_LINE then Some (NotAscii number (place + 1)) else Some (LongLine number)
 
+-- the first fault of a line, if it has one
 abbrev pub fault_of : ℕ → List ℕ → Option LineFault
 fault_of number line = fault_at number line (position (λ b. not (is_allowed b)) (visible_of line))
 
@@ -60,5 +62,6 @@ abbrev pub ended_with : ℕ → List ℕ → Option LineFault → Result (Option
 ended_with number line (Some fault) = Err fault
 ended_with number line None = Ok (line_of number (words_of line))
 
+-- a line by its number and its bytes without the LF
 abbrev pub ended : ℕ → List ℕ → Result (Option TextLine) LineFault
 ended number line = ended_with number line (fault_of number line)

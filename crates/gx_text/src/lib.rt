@@ -1,11 +1,14 @@
 //! The lines and words of a text, and names.
 #![tactic(auto)]
 
+mod fault;
 pub mod laws;
 mod line;
 mod lines;
 mod name;
-mod unended;
+mod partial_line;
+#[cfg(test)]
+mod tests;
 mod words;
 
 pub use line::Line;

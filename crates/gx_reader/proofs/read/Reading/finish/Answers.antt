@@ -1,17 +1,32 @@
-use Rattle.std.proofs.Common.{Ok, ap, ◌∙◌}
-use Rattle.std.proofs.lemmas.Result.{IfOk-weaker, IfErr-weaker}
+use Rattle.std.proofs.Common.{[], ap, ◌∙◌}
+use Rattle.std.proofs.lemmas.Result.{err_from_is_err_and, IfOk-weaker, IfErr-weaker}
 use Rattle.gx_reader.specs.Reading.{and_then, input_of}
-use Rattle.gx_reader.proofs.Resume.{ends, cause_same}
+use Rattle.gx_reader.specs.Left.{left_by}
+use Rattle.gx_reader.proofs.Resume.{ends, end_stops, cause_of, cause_then, cause_same}
 use Rattle.gx_reader.proofs.read.Reading.finish.Goals as goal
+
+pub returns-in_err-finish-clause-err : goal.returns-in_err-finish-clause-err
+returns-in_err-finish-clause-err c =
+    let s = c.args.self in
+    let p = err_from_is_err_and c.from_residual.result c.from_residual.ensures.1 in
+    let stops = end_stops s.declared.grid s.declared.so_far s.lines c.in_err-finish.field-0.0 c.requires c.in_err-finish.ensures in
+    rw (p.1, p.2) (cause_then _ _ (λ d. input_of d.world d.rays) (cause_of c.in_err-finish.field-0.0 (left_by s []) stops))
+
+pub returns-in_err-declare-clause-err : goal.returns-in_err-declare-clause-err
+returns-in_err-declare-clause-err c =
+    let s = c.args.self in
+    let p = err_from_is_err_and c.from_residual-in_err-declare.result c.from_residual-in_err-declare.ensures.1 in
+    let same = ends s.declared.grid s.declared.so_far s.lines c.in_ok-finish.field-0 c.requires c.in_ok-finish.ensures in
+    rw (p.1, p.2) (cause_same _ _ _ (ap (λ r. and_then r (λ d. input_of d.world d.rays)) same) (cause_then _ _ (λ d. input_of d.world d.rays) c.in_err-declare.ensures.err))
 
 pub returns-clause-ok : goal.returns-clause-ok
 returns-clause-ok c =
     let s = c.args.self in
-    let same = ends s.declared.grid s.declared.so_far s.lines c.requires (Ok c.in_ok-finish.field-0) c.in_ok-finish.ensures.ok in
+    let same = ends s.declared.grid s.declared.so_far s.lines c.in_ok-finish.field-0 c.requires c.in_ok-finish.ensures ∙ c.in_ok-declare.ensures.ok in
     IfOk-weaker c.finish-2.result _ _ (λ input e. ap (λ r. and_then r (λ d. input_of d.world d.rays)) same ∙ e) c.finish-2.ensures.ok
 
 pub returns-clause-err : goal.returns-clause-err
 returns-clause-err c =
     let s = c.args.self in
-    let same = ends s.declared.grid s.declared.so_far s.lines c.requires (Ok c.in_ok-finish.field-0) c.in_ok-finish.ensures.ok in
+    let same = ends s.declared.grid s.declared.so_far s.lines c.in_ok-finish.field-0 c.requires c.in_ok-finish.ensures ∙ c.in_ok-declare.ensures.ok in
     IfErr-weaker c.finish-2.result _ _ (λ error h. cause_same error _ _ (ap (λ r. and_then r (λ d. input_of d.world d.rays)) same) h) c.finish-2.ensures.err

@@ -1,42 +1,47 @@
-use Rattle.std.proofs.Common.{ℕ, List, [], Some, None, sym, ◌∙◌, ap}
-use Rattle.std.proofs.lemmas.Result.{err_from_is_err_and, on_ok_weaker, IfErr-weaker}
+use Rattle.std.proofs.Common.{◌≡◌, ◌-◌, length, take, drop, sym, ap, ◌∙◌, arith}
+use Rattle.std.specs.Io.BufRead.{take_through}
+use Rattle.std.proofs.lemmas.List.{take_rest}
+use Rattle.std.proofs.lemmas.Result.{err_from_is_err_and}
 use Rattle.gx_reader.specs.Reading.{and_then}
-use Rattle.gx_reader.specs.State.{resumed}
-use Rattle.gx_reader.proofs.Resume.{Goes, goes, stops, cause_of, cause_then, cause_same}
+use Rattle.gx_reader.specs.Resumed.{resumed}
+use Rattle.gx_reader.proofs.Resume.{take_goes, take_stops, through_le, cause_of, cause_then, cause_same}
 use Rattle.gx_reader.proofs.read.Reading.take.Goals as goal
-use Rattle.gx_reader.proofs.read.Reading.take.Goals.{In-Some, In-None}
 
-on_line : (c : In-Some) (rest : List ℕ) → Goes c.args.self.now.declared.grid c.args.self.now.declared.so_far c.args.self.now.lines c.args.byte rest (Some c.in-Some.line) c.push.new.self
-on_line c rest =
+pub returns-in_err-count-clause-err : goal.returns-in_err-count-clause-err
+returns-in_err-count-clause-err c =
     let s = c.args.self.now in
-    let answer = c.in_ok-line.ensures.ok.0 in
-    goes s.declared.grid s.declared.so_far s.lines c.args.byte rest c.requires.kept _ _ (rw c.in-Some.is at answer) c.in_ok-line.ensures.ok.1
-
-on_none : (c : In-None) (rest : List ℕ) → Goes c.args.self.now.declared.grid c.args.self.now.declared.so_far c.args.self.now.lines c.args.byte rest None c.push.new.self
-on_none c rest =
-    let s = c.args.self.now in
-    let answer = c.in_ok-line.ensures.ok.0 in
-    goes s.declared.grid s.declared.so_far s.lines c.args.byte rest c.requires.kept _ _ (rw c.in-None.is at answer) c.in_ok-line.ensures.ok.1
-
-pub returns-in_err-line-clause-err : goal.returns-in_err-line-clause-err
-returns-in_err-line-clause-err c =
-    let s = c.args.self.now in
+    let fault = c.in_err-count.field-0.0 in
     let p = err_from_is_err_and c.from_residual.result c.from_residual.ensures.1 in
-    rw (p.1, p.2) (λ rest. cause_of _ _ (λ ne. stops s.declared.grid s.declared.so_far s.lines c.args.byte rest c.requires.kept _ (c.in_err-line.ensures.cause ne)))
+    rw (p.1, p.2) (cause_of fault _ (take_stops s.declared.grid s.declared.so_far s.lines c.args.text.now fault c.take.new.self c.requires.kept c.requires.some c.in_err-count.ensures.answer))
 
-pub returns-in-Some-clause-ok : goal.returns-in-Some-clause-ok
-returns-in-Some-clause-ok c =
-    let at = (goal.at.returns-in-Some-clause-ok c).In-Some in
-    let grid = c.take.ensures.grid in
-    on_ok_weaker c.take.result (λ h rest. rw grid (sym ((on_line at rest).same ∙ ap (λ r. and_then r (λ next. resumed c.args.self.now.declared.grid next c.push.new.self.number c.push.new.self.line rest)) h))) c.take.ensures.ok
+pub returns-in_err-declare-clause-err : goal.returns-in_err-declare-clause-err
+returns-in_err-declare-clause-err c =
+    let s = c.args.self.now in
+    let p = err_from_is_err_and c.from_residual-in_err-declare.result c.from_residual-in_err-declare.ensures.1 in
+    let goes = take_goes s.declared.grid s.declared.so_far s.lines c.args.text.now c.in_ok-count.line c.take.new.self c.requires.kept c.requires.some c.in_ok-count.ensures.answer in
+    rw (p.1, p.2) (cause_same _ _ _ goes.same (cause_then _ _ _ c.in_err-declare.ensures.err))
 
-pub returns-in-Some-clause-err : goal.returns-in-Some-clause-err
-returns-in-Some-clause-err c =
-    let at = (goal.at.returns-in-Some-clause-err c).In-Some in
-    IfErr-weaker c.take.result _ _ (λ e h rest. cause_same e _ _ (on_line at rest).same (cause_then e _ _ h)) c.take.ensures.err
+pub slice_bounds-result-count : goal.slice_bounds-result-count
+slice_bounds-result-count c = omega (arith, c.in_ok-count.ensures.count, through_le c.args.text.now)
 
-pub returns-in-None-clause-ok : goal.returns-in-None-clause-ok
-returns-in-None-clause-ok c = λ rest. sym (on_none (goal.at.returns-in-None-clause-ok c).In-None rest).same
+pub slice_bounds-result-start : goal.slice_bounds-result-start
+slice_bounds-result-start c = omega (arith, c.in_ok-count.ensures.count, through_le c.args.text.now)
 
-pub returns-in-None-clause-kept : goal.returns-in-None-clause-kept
-returns-in-None-clause-kept c = (on_none (goal.at.returns-in-None-clause-kept c).In-None []).kept
+pub returns-clause-ok : goal.returns-clause-ok
+returns-clause-ok c =
+    let s = c.args.self.now in
+    let text = c.args.text.now in
+    let count = c.in_ok-count.count in
+    let goes = take_goes s.declared.grid s.declared.so_far s.lines text c.in_ok-count.line c.take.new.self c.requires.kept c.requires.some c.in_ok-count.ensures.answer in
+    let rest : take (length text - count) (drop count text) ≡ drop (length (take_through 10 text)) text = take_rest text count ∙ ap (λ n. drop n text) c.in_ok-count.ensures.count in
+    rw (rest, c.in_ok-declare.ensures.grid)
+    (sym (goes.same ∙ ap (λ r. and_then r (λ next. resumed s.declared.grid next c.take.new.self (drop (length (take_through 10 text)) text))) c.in_ok-declare.ensures.ok))
+
+pub returns-clause-kept : goal.returns-clause-kept
+returns-clause-kept c =
+    let s = c.args.self.now in
+    let text = c.args.text.now in
+    let count = c.in_ok-count.count in
+    let goes = take_goes s.declared.grid s.declared.so_far s.lines text c.in_ok-count.line c.take.new.self c.requires.kept c.requires.some c.in_ok-count.ensures.answer in
+    let rest : take (length text - count) (drop count text) ≡ drop (length (take_through 10 text)) text = take_rest text count ∙ ap (λ n. drop n text) c.in_ok-count.ensures.count in
+    rw rest goes.kept

@@ -1,7 +1,8 @@
-ghost use Rattle.std.specs.Prelude.{◌≡◌, ◌≢◌, ◌∷◌, [], ◌++◌, position, not, IfErr, OnOk, None, Some};
-ghost use Rattle.gx_text.specs.Lines.{fault_of, fault_at, is_allowed as is_allowed_byte};
-ghost use Rattle.gx_text.specs.Unended.{has_comment, ends, brings_nothing};
+ghost use Rattle.std.specs.Prelude.{◌≡◌, ◌≢◌, ◌∷◌, [], ◌++◌, ◌==◌, length, IfErr, OnOk, None, Some};
+ghost use Rattle.gx_text.specs.Lines.{fault_of};
+ghost use Rattle.gx_text.specs.PartialLine.{has_comment, ends, brings_nothing};
 
+use crate::fault::{first_fault, is_allowed};
 use crate::lines::{LineFault, MAX_LINE};
 use crate::words::visible;
 use gx_num::NoMemory;
@@ -10,14 +11,14 @@ use std::marker::Model;
 
 /// A line that isn't ended yet, and whether its comment has begun.
 #[derive(Drop)]
-pub struct Unended {
+pub struct PartialLine {
     bytes: Vec<u8>,
     comment: bool,
 }
 
-impl Model for Unended {
+impl Model for PartialLine {
     ghost use Rattle.std.specs.Prelude.{◌≡◌, List, ℕ};
-    ghost use Rattle.gx_text.specs.Unended.{has_comment};
+    ghost use Rattle.gx_text.specs.PartialLine.{has_comment};
 
     ghost Value = { List ℕ };
 
@@ -26,11 +27,11 @@ impl Model for Unended {
     ghost invariant = { λ l. l.comment ≡ has_comment l.bytes.items };
 }
 
-impl Unended {
-    pub fn new(alloc: Global) -> Unended
+impl PartialLine {
+    pub fn new(alloc: Global) -> PartialLine
         ensures { result ≡ [] }
     {
-        Unended {
+        PartialLine {
             bytes: Vec::new(alloc),
             comment: false,
         }
@@ -40,6 +41,12 @@ impl Unended {
         ensures { result.now ≡ self.now }
     {
         &self.bytes
+    }
+
+    pub fn is_empty(&self) -> bool
+        ensures { result ≡ (length self.now == 0) }
+    {
+        self.bytes.is_empty()
     }
 
     pub fn clear(&mut self)
@@ -63,10 +70,23 @@ impl Unended {
         if plain && self.bytes.len() <= MAX_LINE {
             return Ok(());
         }
-        match first_fault(number, &self.bytes) {
+        match first_fault(number, &self.bytes, visible(&self.bytes)) {
             Some(fault) => Err(fault),
             None => Ok(()),
         }
+    }
+
+    /// Takes the next bytes of a line with this number, or answers the fault that one of them decides.
+    pub fn extend(&mut self, number: u32, bytes: &[u8]) -> Result<(), LineFault>
+        requires { fault_of number self.old ≡ None }
+        ensures kept { OnOk result (fault_of number (self.old ++ bytes.now) ≡ None) }
+        ensures line { OnOk result (self.new ≡ self.old ++ bytes.now) }
+        ensures err { IfErr result (λ fault. fault ≢ LineFault.NoMemory → fault_of number (self.old ++ bytes.now) ≡ Some fault) }
+    {
+        for byte in bytes {
+            self.push(number, *byte)?;
+        }
+        Ok(())
     }
 
     fn grow(&mut self, byte: u8, comment: bool) -> Result<(), NoMemory>
@@ -102,47 +122,5 @@ fn ends_with(line: &[u8], byte: u8) -> bool
     match line {
         [.., last] => *last == byte,
         _ => false,
-    }
-}
-
-fn is_allowed(byte: u8) -> bool
-    ensures { result ≡ is_allowed_byte byte }
-{
-    (byte >= b'!' && byte <= b'~') || byte == b' ' || byte == b'\t'
-}
-
-fn first_refused(line: &[u8]) -> Option<usize>
-    ensures { result ≡ position (λ b. not (is_allowed_byte b)) line.now }
-{
-    line.iter().position(|byte| !is_allowed(*byte))
-}
-
-fn first_fault(number: u32, line: &[u8]) -> Option<LineFault>
-    ensures { result ≡ fault_of number line.now }
-{
-    fault_from(number, line, first_refused(visible(line)))
-}
-
-fn fault_from(number: u32, line: &[u8], refused: Option<usize>) -> Option<LineFault>
-    ensures { result ≡ fault_at number line.now refused }
-{
-    match refused {
-        Some(place) => {
-            if place < MAX_LINE {
-                Some(LineFault::NotAscii {
-                    line: number,
-                    column: place as u32 + 1,
-                })
-            } else {
-                Some(LineFault::LongLine { line: number })
-            }
-        }
-        None => {
-            if line.len() > MAX_LINE {
-                Some(LineFault::LongLine { line: number })
-            } else {
-                None
-            }
-        }
     }
 }
