@@ -9,7 +9,8 @@ use Rattle.std.proofs.lemmas.List.{drop_all, drop_at}
 use Rattle.gx_io.specs.Bytes.{with_before, Rose}
 use Rattle.gx_fraction.specs.Fraction.{Fraction}
 use Rattle.gx_table.specs.declared.fault.FaultName.TheVariants.{LongText}
-use Rattle.gx_reader.specs.Reading.{reading, fault_at, most_bytes}
+use Rattle.gx_reader.specs.Reading.{reading, fault_at}
+use Rattle.gx_reader.specs.declared.read.TheConstants.{MAX_TEXT}
 use Rattle.g4exact.specs.declared.outcome.Status.{Status}
 use Rattle.g4exact.specs.declared.outcome.Status.TheVariants.{Clean, Refuted, TextFault as Faulty, WordsFault, ReadFault, WriteFault, NoMemory}
 use Rattle.g4exact.specs.declared.command.Command.{Command}
@@ -33,8 +34,8 @@ complete_from output old new s s' k k' ReadFault e b p q = absurd (p b.0)
 complete_from output old new s s' k k' WriteFault e b p q = absurd (q b.1)
 complete_from output old new s s' k k' NoMemory e b p q = inr refl
 
-too_long : (grid : Fraction) (text : List ℕ) → most_bytes < length text → reading grid text ≡ Err (fault_at 0 0 LongText)
-too_long grid text h = let e : nat_lt most_bytes (length text) ≡ true = grind (arith, nat_tests) in rw e refl
+too_long : (grid : Fraction) (text : List ℕ) → MAX_TEXT < length text → reading grid text ≡ Err (fault_at 0 0 LongText)
+too_long grid text h = let e : nat_lt MAX_TEXT (length text) ≡ true = grind (arith, nat_tests) in rw e refl
 
 -- what was read of the source reads as all that it had
 pub record ReadsAll (left left' : Option (List ℕ)) (taken : List ℕ) : Type 0 where
@@ -64,7 +65,7 @@ reads_all (Some text) (Some rest) taken e h end =
     short_text : (text taken : List ℕ) → text ≡ taken → length taken < most_read → length text ≤ most_read
     short_text text taken q s = omega (arith, ap length q)
 
-    long_text : (text taken rest : List ℕ) → text ≡ taken ++ rest → most_read ≤ length taken → most_bytes < length text
+    long_text : (text taken rest : List ℕ) → text ≡ taken ++ rest → most_read ≤ length taken → MAX_TEXT < length text
     long_text text taken rest q l = omega (arith, ap length q, length-append taken rest)
 
 -- texts that read as one have one output

@@ -1,5 +1,5 @@
 -- The plane through any three points of a list that are not collinear is a candidate, in whichever order the points are taken.
-use Rattle.std.proofs.Common.{◌≡◌, ◌⊎◌, inl, inr, Option, Some, None, List, [], ◌∷◌, map, Contains, ℤ, pos, ◌-ℤ◌, sym, ap, ◌∙◌, subst, arith}
+use Rattle.std.proofs.Common.{◌≡◌, ◌⊎◌, inl, inr, Option, Some, None, List, [], ◌∷◌, map, Contains, pos, sym, ap, ◌∙◌, subst, arith}
 use Rattle.std.specs.Option.{option_map}
 use Rattle.std.proofs.lemmas.List.Elements.{Contains-append_left, Contains-append_right}
 use Rattle.gx_num.specs.declared.vector.V3.{V3}
@@ -12,7 +12,6 @@ use Rattle.gx_algebra.proofs.Lists.{Contains-head, Contains-tail, Contains-cases
 use Rattle.gx_plane.specs.Plane.{flipped, normal_of, plane_with, plane_through}
 use Rattle.gx_plane.specs.Between.{pairs_of, triples_of, both_ways, candidates}
 use Rattle.gx_plane.proofs.PlaneFacts.{plane_with-point, plane_with-opposite, flipped-flipped}
-use borrow.Author.Differences.{ints}
 
 -- ---- the points in another order
 abbrev pub normal_term : Term3 → Term3 → Term3 → Term3

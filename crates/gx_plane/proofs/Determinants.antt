@@ -1,8 +1,7 @@
 -- Which of the two senses of a plane is between two lists, by a normal that is not made primitive: the signs of sides are the same.
-use Rattle.std.proofs.Common.{get_or, add-one, drop, length, not, ◌+◌, suc, ◌≡◌, ℕ, ◌<◌, Bool, true, false, cond, ◌&&◌, Option, None, List, [], ◌∷◌, find, ℤ, pos, ◌-ℤ◌, ◌*ℤ◌, ◌≤ℤ◌, ◌<ℤ◌, int_le, refl, sym, ap, ap₂, ◌∙◌, arith, true≢false}
+use Rattle.std.proofs.Common.{not, ◌≡◌, ℕ, ◌<◌, Bool, true, false, cond, ◌&&◌, Option, None, List, [], ◌∷◌, find, ℤ, pos, ◌-ℤ◌, ◌*ℤ◌, ◌≤ℤ◌, ◌<ℤ◌, int_le, refl, sym, ap, ap₂, ◌∙◌, arith, true≢false}
 use Rattle.std.specs.Option.{option_map}
 use Rattle.std.specs.List.{list_all}
-use Rattle.std.proofs.Math.Seq.{drop-cons}
 use Rattle.std.proofs.lemmas.Bool.Decides.{same_from_decides, Decides-like}
 use Rattle.gx_num.specs.declared.vector.V3.{V3}
 use Rattle.gx_num.specs.Vector.{dot_of, difference_of, opposite_of}

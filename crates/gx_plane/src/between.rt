@@ -24,6 +24,7 @@ pub fn first_triple_between(a: &[V3], b: &[V3]) -> Option<Plane>
 }
 
 /// The plane through three points if it is between, else the same plane flipped if that is.
+#[inline(always)]
 pub fn first_of_three(p: V3, q: V3, r: V3, a: &[V3], b: &[V3]) -> Option<Plane>
     requires first { IsWithin reach p }
     requires second { IsWithin reach q }

@@ -61,6 +61,7 @@ impl RawPlane {
     }
 
     /// The senses in which it has no point beyond it.
+    #[inline(always)]
     pub fn senses(self, points: &[V3]) -> Senses
         requires { All (IsWithin reach) points.now }
         ensures forward { result.forward ≡ supports self points.now }
