@@ -5,10 +5,10 @@ use Rattle.gx_num.specs.declared.ray.Ray.{Ray}
 use Rattle.gx_num.specs.Space.{HalfSpace, normal_dot}
 use Rattle.gx_num.specs.Vector4.{Vec4, origin, dot4, plus4, times4, opposite4, det4, minors}
 use Rattle.gx_num.specs.Ray.{point_of_ray}
-use Rattle.gx_num.specs.Vector.{dot_of, cross_of, times3, difference_of}
+use Rattle.gx_num.specs.Vector.{dot_of}
 use Rattle.gx_algebra.proofs.Terms as term
 use Rattle.gx_algebra.proofs.Terms.{◌≣◌, ◌≣³◌, ◌⊕◌, ◌⊖◌, ◌⊗◌, none}
-use Rattle.gx_algebra.proofs.Identity.{identity, identity3, number, natural, vector3, vector4, half_space, ray}
+use Rattle.gx_algebra.proofs.Identity.{identity, number, natural, vector4, half_space, ray}
 
 -- vectors with the same components are one
 pub same3 : (a b : V3) → a.x ≡ b.x → a.y ≡ b.y → a.z ≡ b.z → a ≡ b
