@@ -24,6 +24,8 @@ use Rattle.gx_shapes.specs.Shape.{Shape, value_count}
 use Rattle.gx_solids.specs.declared.fault.SolidFault.{SolidFault}
 use Rattle.gx_solids.specs.declared.fault.SolidFault.TheVariants.{At, Whole, NoMemory}
 use Rattle.gx_solids.specs.Accepted.{accepted}
+use Rattle.gx_reader.specs.declared.declared.TheConstants.{MAX_PARAMS}
+use Rattle.gx_reader.specs.declared.input.TheConstants.{MAX_RAYS}
 use Rattle.gx_reader.specs.Judge.{number_in, values_in, kind_of, verdict, judged_from, not_built}
 
 -- ---- what is declared so far
@@ -133,19 +135,15 @@ ray_declared d (Ok givens) = if is_zero (vector_at 3 givens) then not_built 5 el
 
 -- ---- lines
 
--- the most lines of parameters, and of rays
-abbrev pub most : ℕ
-most = 65536
-
 -- Parameters anywhere, one world, and rays after it.
 abbrev pub declared_by : Fraction → Declarations → List (List ℕ) → Option Tag → Result Declarations WordFault
 declared_by grid d words None = not_built 1
 declared_by grid d words (Some ParamTag) =
-    if nat_le most d.param_lines then not_built 1 else param_declared d words (judged grid d param_form words)
+    if nat_le MAX_PARAMS d.param_lines then not_built 1 else param_declared d words (judged grid d param_form words)
 declared_by grid d words (Some VolumeTag) =
     if is_some d.world then not_built 1 else world_declared d words (kind_of (word 3 words)) (judged grid d (volume_form (kind_of (word 3 words))) words)
 declared_by grid d words (Some RayTag) =
-    if is_some d.world && not (nat_le most (length d.rays)) then ray_declared d (judged grid d ray_form words) else not_built 1
+    if is_some d.world && not (nat_le MAX_RAYS (length d.rays)) then ray_declared d (judged grid d ray_form words) else not_built 1
 
 abbrev pub on_line : ℕ → Result Declarations WordFault → Result Declarations TextFault
 on_line number (Err fault) = Err (record { line = number; word = fault.word; name = fault.name })

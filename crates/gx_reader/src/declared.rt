@@ -2,6 +2,7 @@ ghost use Rattle.std.specs.Prelude.{◌≡◌, ◌≤◌, ◌<◌, IfOk, IfErr, 
 ghost use Rattle.gx_reader.specs.Form.{declare, nothing_declared, param_of, judged as judged_by, declared_by, tag_of, word, number_at as number_at_of, vector_at as vector_at_of, is_zero as is_zero_of};
 ghost use Rattle.gx_reader.specs.Given.{Fits, IsCauseAt};
 ghost use Rattle.gx_reader.specs.Reading.{input_of, IsCause};
+ghost use Rattle.gx_reader.specs.declared.declared.TheConstants.{MAX_PARAMS};
 
 use crate::fault::{ReadError, Refusal, TextFault, WordFault};
 use crate::input::{Input, MAX_RAYS, Rays};
@@ -18,7 +19,7 @@ use std::alloc::Global;
 use std::marker::Model;
 
 /// The most lines of parameters.
-const MAX_PARAMS: u32 = 65536;
+pub const MAX_PARAMS: u32 = 65536;
 
 const PARAM_FORM: [Judge; 2] = [Judge::ParamName, Judge::Expression];
 
@@ -38,12 +39,13 @@ pub struct Declared {
 impl Model for Declared {
     ghost use Rattle.std.specs.Prelude.{◌≤◌};
     ghost use Rattle.gx_reader.specs.SoFar.{SoFar};
+    ghost use Rattle.gx_reader.specs.declared.declared.TheConstants.{MAX_PARAMS};
 
     ghost Value = { SoFar };
 
     ghost view = { λ d. record { grid = d.grid; so_far = record { params = d.params; param_lines = d.param_lines; world = d.world; rays = d.rays } } };
 
-    ghost invariant = { λ d. d.param_lines ≤ 65536 };
+    ghost invariant = { λ d. d.param_lines ≤ MAX_PARAMS };
 }
 
 impl Declared {
@@ -108,7 +110,7 @@ impl Declared {
     }
 
     fn define(&mut self, name: &[u8], value: Value) -> Result<(), Refusal>
-        requires { self.old.so_far.param_lines < 65536 }
+        requires { self.old.so_far.param_lines < MAX_PARAMS }
         ensures grid { self.new.grid ≡ self.old.grid }
         ensures ok { OnOk result (param_of self.old.so_far name.now (Given.Worthy value) ≡ Ok self.new.so_far) }
         ensures err { IfErr result (IsCauseAt (param_of self.old.so_far name.now (Given.Worthy value))) }

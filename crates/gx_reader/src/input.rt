@@ -1,5 +1,6 @@
 ghost use Rattle.std.specs.Prelude.{◌≡◌, ◌≤◌, ◌<◌, ◌++◌, ◌∷◌, [], length, IfOk, OnErr, slice_get, Some, All};
 ghost use Rattle.gx_reader.specs.Rays.{IsTraceable};
+ghost use Rattle.gx_reader.specs.declared.input.TheConstants.{MAX_RAYS};
 
 use gx_num::Ray;
 use gx_tree::Hierarchy;
@@ -19,12 +20,13 @@ impl Model for Rays {
     ghost use Rattle.std.specs.Prelude.{List, ◌≤◌, length, All};
     ghost use Rattle.gx_num.specs.declared.ray.Ray.{Ray as Line};
     ghost use Rattle.gx_reader.specs.Rays.{IsTraceable};
+    ghost use Rattle.gx_reader.specs.declared.input.TheConstants.{MAX_RAYS};
 
     ghost Value = { List Line };
 
     ghost view = { λ r. r.rays.items };
 
-    ghost invariant = { λ r. (length r.rays.items ≤ 65536) × All IsTraceable r.rays.items };
+    ghost invariant = { λ r. (length r.rays.items ≤ MAX_RAYS) × All IsTraceable r.rays.items };
 }
 
 impl Rays {
@@ -38,7 +40,7 @@ impl Rays {
 
     pub fn count(&self) -> u32
         ensures count { result ≡ length self.now }
-        ensures most { result ≤ 65536 }
+        ensures most { result ≤ MAX_RAYS }
         ensures kept { All IsTraceable self.now }
     {
         self.rays.len() as u32
@@ -54,7 +56,7 @@ impl Rays {
     }
 
     pub fn push(&mut self, ray: Ray) -> Result<(), AllocFailed<Ray>>
-        requires room { length self.old < 65536 }
+        requires room { length self.old < MAX_RAYS }
         requires kept { IsTraceable ray }
         ensures ok { IfOk result (λ _. self.new ≡ self.old ++ ray ∷ []) }
         ensures err { OnErr result (self.new ≡ self.old) }
