@@ -18,12 +18,13 @@ pub struct Buffer {
 
 impl Model for Buffer {
     ghost use Rattle.std.specs.Prelude.{ℕ, ◌≤◌, List, length, vec_capacity};
+    ghost use Rattle.gx_io.specs.declared.buffer.TheConstants.{PIECE};
 
     ghost Value = { List ℕ };
 
     ghost view = { λ b. b.pending.items };
 
-    ghost invariant = { λ b. (length b.pending.items ≤ 65536) × (65536 ≤ vec_capacity b.pending) };
+    ghost invariant = { λ b. (length b.pending.items ≤ PIECE) × (PIECE ≤ vec_capacity b.pending) };
 }
 
 impl Buffer {
