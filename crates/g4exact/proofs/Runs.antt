@@ -1,12 +1,12 @@
 -- How a run's parts make its clauses.
-use Rattle.std.proofs.Common.{◌≡◌, ℕ, ◌<◌, ◌≤◌, inl, inr, true, List, [], ◌++◌, length, drop, Option, None, Some, Err, refl, sym, ap, ◌∙◌, subst, arith, length-append, append-nil}
+use Rattle.std.proofs.Common.{◌≡◌, ◌⊎◌, ℕ, ◌<◌, ◌≤◌, inl, inr, true, List, [], ◌++◌, length, drop, Option, None, Some, Err, refl, sym, ap, ◌∙◌, subst, arith, length-append, append-nil}
 use Rattle.std.specs.Prelude.{nat_lt}
 use Rattle.std.specs.Option.{option_map}
 use Rattle.std.specs.Io.KnownBytes.{IsAtEnd}
 use Rattle.std.proofs.lemmas.Bool.{cases_lt}
 use Rattle.std.proofs.lemmas.Bool.Decides.{nat_tests}
 use Rattle.std.proofs.lemmas.List.{drop_all, drop_at}
-use Rattle.gx_io.specs.Bytes.{with_before, Rose}
+use Rattle.gx_io.specs.Bytes.{with_before}
 use Rattle.gx_fraction.specs.Fraction.{Fraction}
 use Rattle.gx_table.specs.declared.fault.FaultName.TheVariants.{LongText}
 use Rattle.gx_reader.specs.Reading.{reading, fault_at}
@@ -16,23 +16,26 @@ use Rattle.g4exact.specs.declared.outcome.Status.TheVariants.{Clean, Refuted, Te
 use Rattle.g4exact.specs.declared.command.Command.{Command}
 use Rattle.g4exact.specs.declared.command.Command.TheVariants.{Trace}
 use Rattle.g4exact.specs.Output.{IsOutput, IsTraceOf}
-use Rattle.g4exact.specs.Ends.{Ends, IsTold, Blames, Completes, IsReadOut, most_read}
+use Rattle.g4exact.specs.Ends.{WritesAll, Ends, IsTold, Blames, HasFailed, Answers, IsReadOut, most_read}
 
 -- some text is told
 pub told : (left : Option (List ℕ)) → (text : List ℕ) × IsTold left text
 told None = ([], tt)
 told (Some text) = (text, refl)
 
--- no fault, so the whole output
-pub complete_from : (output : List ℕ → Status → Type 0) (old new : Option (List ℕ)) (s s' k k' : ℕ) (status : Status)
-    → Ends output old new status → Blames s s' k k' status → (Rose s s' → ⊥) → (Rose k k' → ⊥) → Completes output old new status
-complete_from output old new s s' k k' Clean e b p q = inl e
-complete_from output old new s s' k k' Refuted e b p q = inl e
-complete_from output old new s s' k k' Faulty e b p q = inl e
-complete_from output old new s s' k k' WordsFault e b p q = inl e
-complete_from output old new s s' k k' ReadFault e b p q = absurd (p b.0)
-complete_from output old new s s' k k' WriteFault e b p q = absurd (q b.1)
-complete_from output old new s s' k k' NoMemory e b p q = inr refl
+-- what ends by its status, and blames by it, is complete where no device failed
+pub answered : (output : List ℕ → Status → Type 0) (old new : Option (List ℕ)) (s s' k k' : ℕ) (status : Status)
+    → Ends output old new status → Blames s s' k k' status → Answers output old new (HasFailed s s' k k') status
+answered output old new s s' k k' status e b = record { ends = e; complete = complete status e b }
+  where
+    complete : (status : Status) → Ends output old new status → Blames s s' k k' status → (HasFailed s s' k k' → ⊥) → WritesAll output old new status ⊎ (status ≡ NoMemory)
+    complete Clean e b p = inl e
+    complete Refuted e b p = inl e
+    complete Faulty e b p = inl e
+    complete WordsFault e b p = inl e
+    complete ReadFault e b p = absurd (p (inl b.0))
+    complete WriteFault e b p = absurd (p (inr b.1))
+    complete NoMemory e b p = inr refl
 
 too_long : (grid : Fraction) (text : List ℕ) → MAX_TEXT < length text → reading grid text ≡ Err (fault_at 0 0 LongText)
 too_long grid text h = let e : nat_lt MAX_TEXT (length text) ≡ true = grind (arith, nat_tests) in rw e refl
@@ -74,14 +77,18 @@ pub same_output : (command : Command) (text taken : List ℕ) (old new : Option 
 same_output (Trace grid) text taken old new status e h = subst (λ read. Ends (IsTraceOf read) old new status) (sym (e grid)) h
 
 -- a source that was read out is so at each status
-pub read_out : (old new : Option (List ℕ)) (status : Status) → new ≡ option_map (drop most_read) old → IsReadOut old new status
-read_out old new Clean e = e
-read_out old new Refuted e = e
-read_out old new Faulty e = e
-read_out old new WordsFault e = e
-read_out old new ReadFault e = tt
-read_out old new WriteFault e = e
-read_out old new NoMemory e = tt
+pub read_out : (old new : Option (List ℕ)) (taken : List ℕ) (status : Status) → length taken ≤ most_read → old ≡ with_before taken new → new ≡ option_map (drop most_read) old → IsReadOut old new status
+read_out old new taken Clean h b e = e
+read_out old new taken Refuted h b e = e
+read_out old new taken Faulty h b e = e
+read_out old new taken WordsFault h b e = e
+read_out old new taken ReadFault h b e = (taken, h, b)
+read_out old new taken WriteFault h b e = e
+read_out old new taken NoMemory h b e = (taken, h, b)
+
+-- what blames the sink alone, whatever the source's count is, is no read fault
+pub no_read_fault : (k k' : ℕ) (status : Status) → ((n : ℕ) → Blames n n k k' status) → status ≡ ReadFault → ⊥
+no_read_fault k k' status b e = let kept = (subst (Blames 0 0 k k') e (b 0)).0 in omega (arith, kept)
 
 -- what blames the sink alone, whatever the source's count is, goes with a source whose count is kept
 pub blamed : (s s' k k' : ℕ) (status : Status) → s' ≡ s → ((n : ℕ) → Blames n n k k' status) → Blames s s' k k' status
@@ -89,6 +96,6 @@ blamed s s' k k' Clean e b = (e, (b 0).1)
 blamed s s' k k' Refuted e b = (e, (b 0).1)
 blamed s s' k k' Faulty e b = (e, (b 0).1)
 blamed s s' k k' WordsFault e b = (e, (b 0).1)
-blamed s s' k k' ReadFault e b = absurd (elim (b 0).0 [ inl rose ↦ omega arith | inr at_end ↦ omega arith ])
+blamed s s' k k' ReadFault e b = absurd (no_read_fault k k' ReadFault b refl)
 blamed s s' k k' WriteFault e b = (e, (b 0).1)
 blamed s s' k k' NoMemory e b = (e, (b 0).1)

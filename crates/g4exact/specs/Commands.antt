@@ -1,5 +1,5 @@
 -- The words after the program's name, and the commands that they are.
-use Rattle.std.specs.Prelude.{ℕ, pos, List, [], ◌∷◌, take, drop, Option, None, Some, Result, Ok, Err, is_some, if◌then◌else◌, codes}
+use Rattle.std.specs.Prelude.{ℕ, pos, List, [], ◌∷◌, take, drop, Option, None, Some, Result, Ok, Err, if◌then◌else◌, codes}
 use Rattle.std.specs.Str.{bytes_eq}
 use Rattle.gx_fraction.specs.Fraction.{Fraction}
 use Rattle.gx_expr.specs.declared.fault.ExprFault.{ExprFault}

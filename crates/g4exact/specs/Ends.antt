@@ -1,13 +1,14 @@
 -- How a run ends: what it has read and written, by its status.
-use Rattle.std.specs.Prelude.{◌≡◌, ◌⊎◌, ℕ, List, drop, Option, None, Some, Result}
+use Rattle.std.specs.Prelude.{◌≡◌, ◌⊎◌, ℕ, ◌+◌, ◌≤◌, List, length, drop, Option, None, Some, Result}
 use Rattle.std.specs.Option.{option_map}
-use Rattle.gx_io.specs.Bytes.{with_after, AppendsFront, Writes, Rose}
+use Rattle.gx_io.specs.Bytes.{with_after, with_before, next_fault, AppendsFront, Writes}
 use Rattle.gx_io.specs.declared.fault.Failed.{Failed}
 use Rattle.gx_reader.specs.declared.input.Input.{Input}
+use Rattle.gx_reader.specs.declared.read.TheConstants.{MAX_TEXT}
 use Rattle.g4exact.specs.Output.{IsTrace}
 use Rattle.g4exact.specs.declared.command.Command.{Command}
 use Rattle.g4exact.specs.declared.outcome.Status.{Status}
-use Rattle.g4exact.specs.declared.outcome.Status.TheVariants.{WordsFault, ReadFault, WriteFault, NoMemory}
+use Rattle.g4exact.specs.declared.outcome.Status.TheVariants.{Clean, Refuted, TextFault, WordsFault, ReadFault, WriteFault, NoMemory}
 
 -- the text is what the source has left, where it tells that
 abbrev pub IsTold : Option (List ℕ) → List ℕ → Type 0
@@ -33,14 +34,19 @@ Ends output old new ReadFault = new ≡ old
 Ends output old new NoMemory = new ≡ old
 Ends output old new status = WritesAll output old new status
 
--- The source isn't touched where the words are no command. Else it is read to its end, or to one byte past the most of a text,
--- unless it failed or memory was wanting.
+-- one byte past the most of a text
 abbrev pub most_read : ℕ
-most_read = 67108865
+most_read = 1 + MAX_TEXT
 
+-- some bytes were taken, and no more than that
+abbrev pub IsReadFrom : Option (List ℕ) → Option (List ℕ) → Type 0
+IsReadFrom old new = (taken : List ℕ) × (length taken ≤ most_read) × (old ≡ with_before taken new)
+
+-- The source isn't touched where the words are no command. Else as much as that is read, or all there is;
+-- where it failed or memory was wanting, some of it.
 abbrev pub IsReadOut : Option (List ℕ) → Option (List ℕ) → Status → Type 0
-IsReadOut old new ReadFault = Unit {0}
-IsReadOut old new NoMemory = Unit {0}
+IsReadOut old new ReadFault = IsReadFrom old new
+IsReadOut old new NoMemory = IsReadFrom old new
 IsReadOut old new status = new ≡ option_map (drop most_read) old
 
 abbrev pub IsRead : Option Command → Option (List ℕ) → Option (List ℕ) → Status → Type 0
@@ -57,12 +63,27 @@ abbrev pub JudgesWords : Option Command → Status → Type 0
 JudgesWords None status = NamesWords status
 JudgesWords (Some command) status = Unit {0}
 
--- a fault of a device is told only where its count rose, and else the counts are kept
+-- at a fault of a device its count is the next one, and else the counts are kept
 abbrev pub Blames : ℕ → ℕ → ℕ → ℕ → Status → Type 0
-Blames source source' sink sink' ReadFault = Rose source source' × (sink' ≡ sink)
-Blames source source' sink sink' WriteFault = (source' ≡ source) × Rose sink sink'
+Blames source source' sink sink' ReadFault = (source' ≡ next_fault source) × (sink' ≡ sink)
+Blames source source' sink sink' WriteFault = (source' ≡ source) × (sink' ≡ next_fault sink)
 Blames source source' sink sink' status = (source' ≡ source) × (sink' ≡ sink)
 
--- where neither device failed, the whole output is written, unless memory was wanting
-abbrev pub Completes : (List ℕ → Status → Type 0) → Option (List ℕ) → Option (List ℕ) → Status → Type 0
-Completes output old new status = WritesAll output old new status ⊎ (status ≡ NoMemory)
+-- the count of a device is the next one
+abbrev pub HasFailed : ℕ → ℕ → ℕ → ℕ → Type 0
+HasFailed source source' sink sink' = (source' ≡ next_fault source) ⊎ (sink' ≡ next_fault sink)
+
+-- What was written of a text's output is as the status tells; and where no device failed, it is all, unless memory was wanting.
+pub record Answers (output : List ℕ → Status → Type 0) (old new : Option (List ℕ)) (failed : Type 0) (status : Status) : Type 0 where
+  pub ends : Ends output old new status
+  pub complete : (failed → ⊥) → WritesAll output old new status ⊎ (status ≡ NoMemory)
+
+-- the program's exit status
+abbrev pub code_of : Status → ℕ
+code_of Clean = 0
+code_of Refuted = 1
+code_of TextFault = 2
+code_of WordsFault = 3
+code_of ReadFault = 4
+code_of WriteFault = 5
+code_of NoMemory = 6

@@ -8,12 +8,16 @@ mod run;
 mod tests;
 mod trace;
 
-ghost use Rattle.std.specs.Prelude.{◌≡◌, ◌<◌};
+ghost use Rattle.std.specs.Prelude.{◌≡◌, ◌<◌, ℕ, List, map, string_bytes};
+ghost use Rattle.g4exact.specs.Commands.{command_of};
+ghost use Rattle.g4exact.specs.Output.{IsOutput};
+ghost use Rattle.g4exact.specs.declared.outcome.Status.TheVariants.{ReadFault};
+ghost use Rattle.g4exact.specs.Ends.{IsTold, IsRead, JudgesWords, Blames, HasFailed, Answers};
 
 pub use command::Command;
 use gx_io::{Sink, Source, StdSink, StdSource};
 use gx_steps::Steps;
-pub use outcome::Status;
+pub use outcome::{Status, exit_code};
 pub use run::run;
 use std::alloc::{AllocError, Global};
 use std::env;
@@ -25,7 +29,7 @@ use std::sync::ledger::{Blank, Ledger};
 
 fn main(rt: HostRuntime) -> ExitCode {
     let Ok(words) = words_of(&rt) else {
-        return ExitCode::from(Status::NoMemory as u8);
+        return ExitCode::from(exit_code(Status::NoMemory));
     };
     let mut source = StdSource::new(rt.stdin());
     let mut sink = StdSink::new(rt.stdout());
@@ -37,7 +41,7 @@ fn main(rt: HostRuntime) -> ExitCode {
         Blank::new(1),
         Blank::new(1),
     );
-    ExitCode::from(status as u8)
+    ExitCode::from(exit_code(status))
 }
 
 // The words after the program's name. Words that are no text are no command, and so are none.
@@ -53,7 +57,7 @@ fn words_of(rt: &(impl Env + AllocGlobal)) -> Result<Vec<String>, AllocError> {
     }
 }
 
-// Opens the two counters.
+// Opens the two counters, and runs. What it ensures is what `run` does.
 fn counted<S: Source, K: Sink, T: Ledger, Q: Ledger>(
     alloc: Global,
     words: &[String],
@@ -68,6 +72,13 @@ fn counted<S: Source, K: Sink, T: Ledger, Q: Ledger>(
     requires reads { reads.name ≡ Q.name }
     requires reads_parts { reads.parts ≡ Q.parts }
     requires some_reads { 0 < Q.parts }
+    ensures output { (text : List ℕ) × IsTold (S.left source.old) text
+        × Answers (IsOutput (command_of (map string_bytes words.now)) text) (K.written sink.old) (K.written sink.new)
+        (HasFailed (S.faults source.old) (S.faults source.new) (K.faults sink.old) (K.faults sink.new)) result }
+    ensures read { IsRead (command_of (map string_bytes words.now)) (S.left source.old) (S.left source.new) result }
+    ensures words { JudgesWords (command_of (map string_bytes words.now)) result }
+    ensures blames { Blames (S.faults source.old) (S.faults source.new) (K.faults sink.old) (K.faults sink.new) result }
+    ensures last { result ≡ ReadFault → (before : S) × (S.faults before ≡ S.faults source.old) × S.fails before source.new }
 {
     let mut tests: Steps<T> = Steps::new(tests);
     let mut reads: Steps<Q> = Steps::new(reads);

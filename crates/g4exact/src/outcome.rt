@@ -1,4 +1,7 @@
-/// How a run ends. The number is the program's exit status.
+ghost use Rattle.std.specs.Prelude.{◌≡◌};
+ghost use Rattle.g4exact.specs.Ends.{code_of};
+
+/// How a run ends.
 #[derive(Clone, Copy, Debug, PartialEq, Eq)]
 pub enum Status {
     Clean = 0,
@@ -8,4 +11,11 @@ pub enum Status {
     ReadFault = 4,
     WriteFault = 5,
     NoMemory = 6,
+}
+
+/// The program's exit status.
+pub fn exit_code(status: Status) -> u8
+    ensures { result ≡ code_of status }
+{
+    status as u8
 }

@@ -1,8 +1,8 @@
 ghost use Rattle.std.specs.Prelude.{◌≡◌, ℕ, List, map, string_bytes, Some, None};
-ghost use Rattle.gx_io.specs.Bytes.{Rose};
 ghost use Rattle.g4exact.specs.Commands.{command_of};
 ghost use Rattle.g4exact.specs.Output.{IsOutput};
-ghost use Rattle.g4exact.specs.Ends.{Ends, IsTold, IsRead, JudgesWords, NamesWords, Blames, Completes};
+ghost use Rattle.g4exact.specs.declared.outcome.Status.TheVariants.{ReadFault};
+ghost use Rattle.g4exact.specs.Ends.{Ends, IsTold, IsRead, JudgesWords, NamesWords, Blames, HasFailed, Answers};
 
 use crate::command::{Command, command_from};
 use crate::outcome::Status;
@@ -23,23 +23,23 @@ pub fn run<S: Source, K: Sink, T: Ledger, Q: Ledger>(
     tests: &mut Steps<T>,
     reads: &mut Steps<Q>,
 ) -> Status
-    // What is written is the output for the words and the source's bytes: all of it, a front of it, or nothing, by the status.
+    // What is written is the output for the words and the source's bytes: all of it, a front of it, or nothing, by the status;
+    // where neither count of faults is the next one, all of it, unless memory was wanting.
     ensures output { (text : List ℕ) × IsTold (S.left source.old) text
-        × Ends (IsOutput (command_of (map string_bytes words.now)) text) (K.written sink.old) (K.written sink.new) result }
+        × Answers (IsOutput (command_of (map string_bytes words.now)) text) (K.written sink.old) (K.written sink.new)
+        (HasFailed (S.faults source.old) (S.faults source.new) (K.faults sink.old) (K.faults sink.new)) result }
 
-    // What is read: nothing, or everything up to one byte past the most of a text.
+    // What is read: nothing, or everything up to one byte past the most of a text; at a fault or for want of memory, some of that.
     ensures read { IsRead (command_of (map string_bytes words.now)) (S.left source.old) (S.left source.new) result }
 
     // Words that are no command are judged without memory and without the source.
     ensures words { JudgesWords (command_of (map string_bytes words.now)) result }
 
-    // A device is blamed only where its count of faults rose.
+    // At a device's fault its count is the next one, and else the counts are kept.
     ensures blames { Blames (S.faults source.old) (S.faults source.new) (K.faults sink.old) (K.faults sink.new) result }
 
-    // Where neither count rose, all of the output is written, or memory was wanting.
-    ensures complete { (Rose (S.faults source.old) (S.faults source.new) → ⊥) → (Rose (K.faults sink.old) (K.faults sink.new) → ⊥)
-        → (text : List ℕ) × IsTold (S.left source.old) text
-        × Completes (IsOutput (command_of (map string_bytes words.now)) text) (K.written sink.old) (K.written sink.new) result }
+    // After a read that failed there is no other.
+    ensures last { result ≡ ReadFault → (before : S) × (S.faults before ≡ S.faults source.old) × S.fails before source.new }
 
     // So far nothing is counted.
     ensures tests { tests.new ≡ tests.old }
@@ -62,6 +62,7 @@ fn execute<S: Source, K: Sink>(
         × Ends (IsOutput (Some command) text) (K.written sink.old) (K.written sink.new) result }
     ensures read { IsRead (Some command) (S.left source.old) (S.left source.new) result }
     ensures blames { Blames (S.faults source.old) (S.faults source.new) (K.faults sink.old) (K.faults sink.new) result }
+    ensures last { result ≡ ReadFault → (before : S) × (S.faults before ≡ S.faults source.old) × S.fails before source.new }
 {
     match read_up_to(alloc, source, MAX_TEXT + 1) {
         Ok(text) => answer(alloc, command, &text, sink),

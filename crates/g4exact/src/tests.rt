@@ -1,5 +1,5 @@
 //! Runs over sources and sinks in memory, with outputs worked out by hand, and one call of each public function below.
-use crate::{Status, counted};
+use crate::{Status, counted, exit_code};
 use gx_fraction::Frac;
 use gx_io::{MemSink, MemSource};
 use gx_num::{V3, cmp_products, gcd, sign};
@@ -343,6 +343,13 @@ fn a_device_that_fails_leaves_a_front(rt: HostRuntime) -> Result<(), Fail> {
     assert!(rt; status == Status::WriteFault, "{status:?}");
     assert!(rt; sink.written() == b"ray ".as_slice());
     Ok(())
+}
+
+#[test]
+fn a_status_has_its_number(rt: HostRuntime) {
+    assert_eq!(rt; exit_code(Status::Clean), 0);
+    assert_eq!(rt; exit_code(Status::Refuted), 1);
+    assert_eq!(rt; exit_code(Status::NoMemory), 6);
 }
 
 #[test]

@@ -1,5 +1,5 @@
 use Rattle.std.proofs.Common.{refl, arith}
-use Rattle.g4exact.proofs.Runs.{told, reads_all, ReadsAll, same_output, read_out, blamed}
+use Rattle.g4exact.proofs.Runs.{told, reads_all, ReadsAll, same_output, read_out, no_read_fault, blamed}
 use Rattle.g4exact.proofs.run.execute.Goals as goal
 use Rattle.g4exact.proofs.run.execute.Goals.{After-answer}
 
@@ -15,7 +15,10 @@ returns-in-Ok-clause-output g c =
     (w.text, w.told, same_output c.args.command w.text _ _ _ c.answer.result w.same c.answer.ensures.output)
 
 pub returns-in-Ok-clause-read : goal.returns-in-Ok-clause-read
-returns-in-Ok-clause-read g c = read_out _ _ c.answer.result (whole g (goal.at.returns-in-Ok-clause-read g c).After-answer).rest
+returns-in-Ok-clause-read g c = read_out _ _ _ c.answer.result (omega (arith, c.in-Ok.ensures.bound)) c.in-Ok.ensures.bytes (whole g (goal.at.returns-in-Ok-clause-read g c).After-answer).rest
+
+pub returns-in-Ok-clause-last : goal.returns-in-Ok-clause-last
+returns-in-Ok-clause-last g c = λ fault. absurd (no_read_fault _ _ c.answer.result c.answer.ensures.blames fault)
 
 pub returns-in-Err-Failed-clause-output : goal.returns-in-Err-Failed-clause-output
 returns-in-Err-Failed-clause-output g c = let text = told (g.S.Source.left c.args.source.now) in (text.0, text.1, refl)
