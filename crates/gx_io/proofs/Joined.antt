@@ -1,7 +1,6 @@
 -- Calls one after the other: what the callers of reads and writes need.
-use Rattle.std.proofs.Common.{◌≡◌, ℕ, ◌-◌, ◌^◌, List, [], ◌++◌, Option, None, Some, Result, Ok, Err, inl, inr, refl, sym, ap, ◌∙◌, append_assoc, append-nil, arith}
-use Rattle.std.proofs.lemmas.Bool.{cases_lt}
-use Rattle.gx_io.specs.Bytes.{with_after, with_before, AppendsBut, AppendsFront, Writes, Rose, next_fault}
+use Rattle.std.proofs.Common.{◌≡◌, ℕ, List, [], ◌++◌, Option, None, Some, Result, Ok, Err, refl, sym, ap, ◌∙◌, append_assoc, append-nil}
+use Rattle.gx_io.specs.Bytes.{with_after, with_before, AppendsBut, AppendsFront, Writes}
 
 -- two appends in a row
 pub with_after-twice : (told : Option (List ℕ)) (a b : List ℕ) → with_after (with_after told a) b ≡ with_after told (a ++ b)
@@ -54,7 +53,3 @@ pub ruleset joined = (with_after-twice, with_after-nothing, front-of_first, fron
 
 -- what a function that reads in turn is proved with
 pub ruleset read_on = (with_before-twice, with_before-nothing)
-
--- a fault more is a rise
-pub rose-next_fault : (before : ℕ) → Rose before (next_fault before)
-rose-next_fault before = elim (cases_lt before (2 ^ 64 - 1)) [ inl h ↦ inl (omega arith) | inr h ↦ inr (omega arith) ]

@@ -1,5 +1,5 @@
 -- What the calls of a source or a sink do to its bytes and to its count of faults.
-use Rattle.std.specs.Prelude.{◌≡◌, ◌⊎◌, ℕ, ◌+◌, ◌-◌, ◌^◌, ◌<◌, min, List, ◌++◌, take, length, Option, None, Some, Result, OnOk, OnErr, MatchResult}
+use Rattle.std.specs.Prelude.{◌≡◌, ℕ, ◌+◌, ◌-◌, ◌^◌, min, List, ◌++◌, take, length, Option, None, Some, Result, OnOk, OnErr, MatchResult}
 use Rattle.std.specs.Option.{option_map}
 use Rattle.std.specs.Io.KnownBytes.{Appends}
 
@@ -47,7 +47,3 @@ next_fault faults = min (faults + 1) (2 ^ 64 - 1)
 pub record HasCause {T E : Type 0} (before now : ℕ) (result : Result T E) : Type 0 where
   pub kept : OnOk result (now ≡ before)
   pub rose : OnErr result (now ≡ next_fault before)
-
--- the count rose, or stands at the end of its type
-abbrev pub Rose : ℕ → ℕ → Type 0
-Rose before now = (before < now) ⊎ (now ≡ 2 ^ 64 - 1)
