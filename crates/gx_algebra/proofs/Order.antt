@@ -74,16 +74,6 @@ mul-lt-left c a b h k = omega (arith, ints, mul_pos c (b -ℤ a) h (omega (arith
 pub le_of_mul-le-left : (c a b : ℤ) → pos 0 <ℤ c → (c *ℤ a) ≤ℤ (c *ℤ b) → a ≤ℤ b
 le_of_mul-le-left c a b h k = by_lt_z b a (λ lt. absurd (omega (arith, ints, mul-lt-left c b a h lt))) (λ le. le)
 
-pub lt_of_mul-lt-left : (c a b : ℤ) → pos 0 ≤ℤ c → (c *ℤ a) <ℤ (c *ℤ b) → a <ℤ b
-lt_of_mul-lt-left c a b h k = by_lt_z a b (λ lt. lt) (λ le. absurd (omega (arith, ints, mul-le-left c b a h le)))
-
-pub mul_left_cancel : (c a b : ℤ) → c ≢ pos 0 → c *ℤ a ≡ c *ℤ b → a ≡ b
-mul_left_cancel c a b h e = go (mul-eq-zero c (a -ℤ b) (omega (arith, ints, mul-sub c a b)))
-  where
-    go : (c ≡ pos 0) ⊎ (a -ℤ b ≡ pos 0) → a ≡ b
-    go (inl z) = absurd (h z)
-    go (inr z) = omega (arith, ints)
-
 -- ---- what a product above 0 says of a factor
 pub nonneg_of_mul : (c a : ℤ) → pos 0 <ℤ c → pos 0 ≤ℤ (c *ℤ a) → pos 0 ≤ℤ a
 nonneg_of_mul c a h k = by_lt_z a (pos 0) (λ n. absurd (omega (arith, ints, mul_pos_neg c a h n))) (λ le. le)

@@ -63,10 +63,6 @@ pub Contains-distinct : (ps : List V3) (p : V3) → Contains ps p → Contains (
 Contains-distinct ps p h =
     All-contains (Contains (distinct ps)) ps p (All-from_distinct (Contains (distinct ps)) ps (All-contains_itself (distinct ps))) h
 
-pub Contains-from_distinct : (ps : List V3) (p : V3) → Contains (distinct ps) p → Contains ps p
-Contains-from_distinct ps p h =
-    All-contains (Contains ps) (distinct ps) p (All-distinct (Contains ps) ps (All-contains_itself ps)) h
-
 -- ---- distinct points stay as they are
 distinct_by-distinct_by : (seen ps : List V3) → distinct_by is_same seen (distinct_by is_same seen ps) ≡ distinct_by is_same seen ps
 distinct_by-distinct_by seen [] = refl

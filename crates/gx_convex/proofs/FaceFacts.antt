@@ -1,5 +1,5 @@
 -- The faces of points that aren't coplanar bound the points, and imply each half-space that does.
-use Rattle.std.proofs.Common.{get_or, ◌≡◌, Bool, true, false, ◌&&◌, cond, Option, Some, None, List, [], ◌∷◌, ◌++◌, flat_map, filter, find, map, All, ℤ, pos, ◌-ℤ◌, ◌*ℤ◌, ◌≤ℤ◌, ◌<ℤ◌, int_le, unsigned_abs, refl, sym, ap, ◌∙◌, subst, arith, true≢false}
+use Rattle.std.proofs.Common.{get_or, ◌≡◌, Bool, true, false, cond, Option, Some, None, List, [], ◌∷◌, ◌++◌, flat_map, filter, find, All, pos, ◌*ℤ◌, ◌<ℤ◌, int_le, refl, sym, ap, ◌∙◌, arith, true≢false}
 use Rattle.std.specs.List.{cons_option}
 use Rattle.std.specs.Ordering.{int_eq}
 use Rattle.std.specs.Bool.{Decides}
@@ -10,7 +10,7 @@ use Rattle.std.proofs.lemmas.List.Sums.{AllPass-from_list_all}
 use Rattle.gx_num.specs.declared.vector.V3.{V3}
 use Rattle.gx_num.specs.Space.{HalfSpace, is_in, normal_dot}
 use Rattle.gx_num.specs.Vector4.{Vec4, dot4}
-use Rattle.gx_plane.specs.Plane.{divisor_of, is_zero, side_of, supports, flipped, normal_of, plane_through}
+use Rattle.gx_plane.specs.Plane.{divisor_of, is_zero, supports, flipped, normal_of, plane_through}
 use Rattle.gx_plane.specs.Between.{triples_of, both_ways, candidates}
 use Rattle.gx_plane.proofs.Divisors.{divisor_of-opposite, not_zero-divisor_of, IsPrimitive-primitive}
 use Rattle.gx_plane.proofs.PlaneFacts.{plane_through_some, side_of-flipped}

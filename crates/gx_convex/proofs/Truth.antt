@@ -1,5 +1,5 @@
 -- What the tests of numbers, planes and points decide.
-use Rattle.std.proofs.Common.{◌≡◌, Bool, true, ℤ, ◌*ℤ◌, ◌≤ℤ◌, ◌<ℤ◌, int_le, int_lt, pos, List, All, refl, arith}
+use Rattle.std.proofs.Common.{◌≡◌, Bool, true, ◌*ℤ◌, ◌≤ℤ◌, ◌<ℤ◌, int_le, int_lt, pos, List, All, refl, arith}
 use Rattle.std.specs.Bool.{Decides}
 use Rattle.std.proofs.lemmas.Bool.Decides.{Decides-by_and}
 use Rattle.gx_num.specs.Space.{HalfSpace, is_in, is_inside, normal_dot}

@@ -145,8 +145,3 @@ plane_through_some a b c = plane_with_some (normal_of a b c) a
 
 pub plane_through_none : (a b c : V3) → plane_through a b c ≡ None → normal_of a b c ≡ record { x = pos 0; y = pos 0; z = pos 0 }
 plane_through_none a b c = plane_with_none (normal_of a b c) a
-
--- a point is beyond the plane of three points as its determinant with them says
-pub side_of-plane_through : (a b c : V3) (h : HalfSpace) (p : V3) → plane_through a b c ≡ Some h → pos (divisor_of (normal_of a b c)) *ℤ side_of h p ≡ dot_of (normal_of a b c) (difference_of p a)
-side_of-plane_through a b c h p e =
-    ap (λ (k : HalfSpace). pos (divisor_of (normal_of a b c)) *ℤ side_of k p) (plane_through_some a b c h e).same ∙ side_of-plane_at (normal_of a b c) a p

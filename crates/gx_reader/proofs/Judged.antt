@@ -18,9 +18,6 @@ module _ (judge : List Given → Judge → List ℕ → Result Given FaultName) 
   pub further_word : length js ≤ k → k + 1 < length words → left ≡ not_built (k + 2)
   further_word none there = rw (drop_all k js none, drop_more words (k + 1) [] there) refl
 
-  pub no_word : length js ≤ k → length words ≤ k + 1 → left ≡ Ok givens
-  no_word none gone = rw (drop_all k js none, drop_all (k + 1) words gone) refl
-
   module _ (more : k < length js) where
     pub missing_word : length words ≤ k + 1 → left ≡ not_built (k + 2)
     missing_word h = rw (drop_more js k Name more, drop_all (k + 1) words h) refl
