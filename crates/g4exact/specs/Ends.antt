@@ -42,13 +42,13 @@ most_read = 1 + MAX_TEXT
 abbrev pub IsReadFrom : Option (List ℕ) → Option (List ℕ) → Type 0
 IsReadFrom old new = (taken : List ℕ) × (length taken ≤ most_read) × (old ≡ with_before taken new)
 
--- as much as that was read, or all there is; where the source failed or memory was wanting, some of it
+-- The source isn't touched where the words are no command. Else as much as that is read, or all there is;
+-- where it failed or memory was wanting, some of it.
 abbrev pub IsReadOut : Option (List ℕ) → Option (List ℕ) → Status → Type 0
 IsReadOut old new ReadFault = IsReadFrom old new
 IsReadOut old new NoMemory = IsReadFrom old new
 IsReadOut old new status = new ≡ option_map (drop most_read) old
 
--- the source isn't touched where the words are no command
 abbrev pub IsRead : Option Command → Option (List ℕ) → Option (List ℕ) → Status → Type 0
 IsRead None old new status = new ≡ old
 IsRead (Some command) old new status = IsReadOut old new status
