@@ -1,13 +1,14 @@
 ghost use Rattle.std.specs.Prelude.{◌≡◌, ◌<◌, ◌^◌};
 ghost use Rattle.gx_num.specs.Vector.{IsWithin, dot_of};
-ghost use Rattle.gx_rotation.specs.Matrix.{product, transpose, identity, image};
+ghost use Rattle.gx_rotation.specs.Matrix.{product, transpose, identity, image, is_same, is_same-equivalence};
+ghost use Rattle.std.specs.Cmp.{partial_equiv_from_equiv};
 ghost use Rattle.gx_rotation.specs.Rotation.{matrix_of, unit_vector};
 
 use gx_num::V3;
 use std::marker::Model;
 
 /// One of the 24 rotations that take the axes to axes. Contracts see its matrix.
-#[derive(Clone, Copy, Debug, PartialEq, Eq)]
+#[derive(Clone, Copy, Debug)]
 pub struct Rotation {
     index: u8,
 }
@@ -68,6 +69,20 @@ impl Model for Rotation {
     ghost inverse = { λ m. record { index = number_of m } };
 
     ghost inverse_ok = { λ r h i. record { index = number_of-matrix_of r.index h i } };
+}
+
+impl PartialEq for Rotation {
+    ghost eq = { is_same };
+
+    ghost laws = { partial_equiv_from_equiv is_same-equivalence };
+
+    fn eq(&self, other: &Rotation) -> bool {
+        self.index == other.index
+    }
+}
+
+impl Eq for Rotation {
+    ghost laws = { is_same-equivalence };
 }
 
 impl Rotation {

@@ -1,6 +1,5 @@
-use Rattle.std.proofs.Common.{arith}
-use Rattle.gx_rotation.specs.Rotation.{number_of-matrix_of}
+use Rattle.gx_rotation.proofs.Tables.{nat_eq-is_same}
 use Rattle.gx_rotation.proofs.rotation.RotationPartialEq.eq.Goals as goal
 
 pub returns : goal.returns
-returns c = grind (arith, number_of-matrix_of)
+returns c = rw (← c.self.view_is, ← c.other.view_is) (nat_eq-is_same _ _ c.self.invariant c.other.invariant)
