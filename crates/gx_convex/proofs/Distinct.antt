@@ -7,11 +7,12 @@ use Rattle.std.proofs.lemmas.Bool.{cond-true, cond-false}
 use Rattle.std.proofs.lemmas.Bool.Decides.{Decides-int_eq, Decides-and, Decides-like}
 use Rattle.std.proofs.lemmas.List.Elements.{All-nil, All-cons, All-head, All-tail, All-contains, All-contains_itself, All-weaker}
 use Rattle.std.proofs.lemmas.Map.Views.{Contains-from_any}
+use Rattle.gx_num.specs.Vector.{is_same}
 use Rattle.gx_num.specs.declared.vector.V3.{V3}
 use Rattle.gx_num.specs.Space.{HalfSpace}
 use Rattle.gx_algebra.proofs.Identities.{same3}
 use Rattle.gx_plane.specs.Plane.{side_of}
-use Rattle.gx_convex.specs.Points.{is_same, distinct_by, distinct}
+use Rattle.gx_convex.specs.Points.{distinct_by, distinct}
 use Rattle.gx_convex.specs.Hull.{IsBound, IsHullOf}
 use Rattle.gx_plane.proofs.PlaneFacts.{Decides-supports}
 

@@ -7,6 +7,7 @@ use Rattle.std.proofs.lemmas.Bool.Decides.{Decides-int_eq, Decides-and, Decides-
 use Rattle.std.proofs.lemmas.Int.{by_lt_z}
 use Rattle.std.proofs.lemmas.List.Elements.{All-nil, All-cons, All-head, All-tail, All-append, All-map, All-weaker, All-contains, filter-append}
 use Rattle.std.proofs.lemmas.List.Sums.{AllPass-from_list_all}
+use Rattle.gx_num.specs.Vector.{is_same}
 use Rattle.gx_num.specs.declared.vector.V3.{V3}
 use Rattle.gx_num.specs.Space.{HalfSpace, is_in, normal_dot}
 use Rattle.gx_num.specs.Vector4.{Vec4, dot4}
@@ -16,7 +17,7 @@ use Rattle.gx_plane.proofs.Divisors.{divisor_of-opposite, not_zero-divisor_of, I
 use Rattle.gx_plane.proofs.PlaneFacts.{plane_through_some, side_of-flipped}
 use Rattle.gx_plane.proofs.TripleFacts.{planes_of}
 use Rattle.gx_plane.proofs.Complete.{lifted, within, dot4-within, tilted_supporting}
-use Rattle.gx_convex.specs.Points.{is_same, are_coplanar}
+use Rattle.gx_convex.specs.Points.{are_coplanar}
 use Rattle.gx_convex.specs.Faces.{is_same_plane, faces_of}
 use Rattle.gx_convex.specs.Hull.{IsAtMost, IsBound}
 use Rattle.gx_convex.proofs.Distinct.{Decides-is_same, All-distinct_by, All-from_distinct_by}

@@ -1,11 +1,12 @@
 -- The faces of points: the Geant4 Book for Application Developers, geometry, solids (convex ones); their order is this project's own.
 use Rattle.std.specs.Prelude.{List, [], Bool, ◌&&◌, filter}
 use Rattle.std.specs.Ordering.{int_eq}
+use Rattle.gx_num.specs.Vector.{is_same}
 use Rattle.gx_num.specs.declared.vector.V3.{V3}
 use Rattle.gx_num.specs.Space.{HalfSpace}
 use Rattle.gx_plane.specs.Plane.{supports}
 use Rattle.gx_plane.specs.Between.{candidates}
-use Rattle.gx_convex.specs.Points.{is_same, distinct_by}
+use Rattle.gx_convex.specs.Points.{distinct_by}
 
 abbrev pub is_same_plane : HalfSpace → HalfSpace → Bool
 is_same_plane a b = is_same a.n b.n && int_eq a.e b.e

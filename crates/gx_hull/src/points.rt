@@ -3,7 +3,8 @@ ghost use Rattle.std.specs.Int.{int_min, int_max};
 ghost use Rattle.std.specs.List.{list_any};
 ghost use Rattle.gx_num.specs.Vector.{IsWithin};
 ghost use Rattle.gx_plane.specs.Plane.{reach};
-ghost use Rattle.gx_convex.specs.Points.{is_same as is_same_point, distinct as distinct_of};
+ghost use Rattle.gx_convex.specs.Points.{distinct as distinct_of};
+ghost use Rattle.gx_num.specs.Vector.{is_same as is_same_point};
 ghost use Rattle.gx_convex.specs.Extent.{lower as lower_of, upper as upper_of, extent_of};
 ghost use Rattle.gx_hull.specs.Hull.{hull_of, IsHullCause};
 

@@ -1,5 +1,6 @@
 -- Vectors of three whole numbers: bounds, sums and products (any text on linear algebra).
-use Rattle.std.specs.Prelude.{ℕ, ℤ, ◌≤◌, ◌+ℤ◌, ◌-ℤ◌, ◌*ℤ◌, pos, unsigned_abs}
+use Rattle.std.specs.Prelude.{Bool, ◌&&◌, ℕ, ℤ, ◌≤◌, ◌+ℤ◌, ◌-ℤ◌, ◌*ℤ◌, pos, unsigned_abs}
+use Rattle.std.specs.Ordering.{int_eq}
 use Rattle.gx_num.specs.declared.vector.V3.{V3}
 
 -- each component is at most the bound in magnitude
@@ -7,6 +8,10 @@ pub record IsWithin (bound : ℕ) (v : V3) : Type 0 where
   pub x : unsigned_abs v.x ≤ bound
   pub y : unsigned_abs v.y ≤ bound
   pub z : unsigned_abs v.z ≤ bound
+
+-- the same components
+abbrev pub is_same : V3 → V3 → Bool
+is_same a b = int_eq a.x b.x && int_eq a.y b.y && int_eq a.z b.z
 
 -- a + b
 abbrev pub sum_of : V3 → V3 → V3

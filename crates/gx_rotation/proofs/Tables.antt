@@ -3,7 +3,7 @@ use Rattle.std.proofs.Common.{◌≡◌, ℕ, ◌/◌, ◌%◌, false, not, nat_
 use Rattle.std.proofs.Math.Bool.{beq}
 use borrow.Author.Tests.{ltb-true}
 use Rattle.gx_rotation.specs.declared.rotation.TheConstants.{PRODUCTS, INVERSES, PERMUTATIONS}
-use Rattle.gx_rotation.specs.Matrix.{Matrix, product, transpose, identity, determinant, is_same}
+use Rattle.gx_rotation.specs.Matrix.{Matrix, product, transpose, identity, determinant, is_same_matrix}
 use Rattle.gx_rotation.specs.Rotation.{matrix_of, number_of, number_of-matrix_of, signed_rows, takes_axes_to_axes}
 use Rattle.gx_rotation.proofs.Each.{each, each_pair, values}
 
@@ -63,6 +63,6 @@ unfolding matrix_of
 matrix_of-read = each matrix_of read 24 refl
 
 -- numbers are equal where their matrices are
-pub nat_eq-is_same : (i j : ℕ) → i < 24 → j < 24 → nat_eq i j ≡ is_same (matrix_of i) (matrix_of j)
+pub nat_eq-is_same_matrix : (i j : ℕ) → i < 24 → j < 24 → nat_eq i j ≡ is_same_matrix (matrix_of i) (matrix_of j)
 unfolding matrix_of
-nat_eq-is_same i j h k = each_pair nat_eq (λ i j. is_same (matrix_of i) (matrix_of j)) 24 24 refl i j h k
+nat_eq-is_same_matrix i j h k = each_pair nat_eq (λ i j. is_same_matrix (matrix_of i) (matrix_of j)) 24 24 refl i j h k

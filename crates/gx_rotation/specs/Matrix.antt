@@ -1,9 +1,8 @@
 -- Matrices of three rows of whole numbers: product, image of a vector, determinant (any text on linear algebra).
 use Rattle.std.specs.Prelude.{Bool, ◌&&◌, ℤ, ◌+ℤ◌, ◌-ℤ◌, ◌*ℤ◌, pos}
-use Rattle.std.specs.Ordering.{int_eq}
 use Rattle.std.specs.Cmp.{IsEquivalence, and_equiv, on_equiv, int_eq_equiv}
 use Rattle.gx_num.specs.declared.vector.V3.{V3}
-use Rattle.gx_num.specs.Vector.{dot_of}
+use Rattle.gx_num.specs.Vector.{is_same, dot_of}
 
 -- a matrix by its rows
 pub record Matrix : Type 0 where
@@ -45,15 +44,12 @@ determinant m =
     +ℤ m.x.z *ℤ (m.y.x *ℤ m.z.y -ℤ m.y.y *ℤ m.z.x)
 
 -- the same entries
-abbrev pub is_same_row : V3 → V3 → Bool
-is_same_row v w = int_eq v.x w.x && (int_eq v.y w.y && int_eq v.z w.z)
+abbrev pub is_same_matrix : Matrix → Matrix → Bool
+is_same_matrix a b = is_same a.x b.x && is_same a.y b.y && is_same a.z b.z
 
-abbrev pub is_same : Matrix → Matrix → Bool
-is_same a b = is_same_row a.x b.x && (is_same_row a.y b.y && is_same_row a.z b.z)
+is_same-equivalence : IsEquivalence is_same
+is_same-equivalence = and_equiv (and_equiv (on_equiv (λ (v : V3). v.x) int_eq_equiv) (on_equiv (λ (v : V3). v.y) int_eq_equiv)) (on_equiv (λ (v : V3). v.z) int_eq_equiv)
 
-is_same_row-equivalence : IsEquivalence is_same_row
-is_same_row-equivalence = and_equiv (on_equiv (λ (v : V3). v.x) int_eq_equiv) (and_equiv (on_equiv (λ (v : V3). v.y) int_eq_equiv) (on_equiv (λ (v : V3). v.z) int_eq_equiv))
-
-pub is_same-equivalence : IsEquivalence is_same
-is_same-equivalence =
-    and_equiv (on_equiv (λ (m : Matrix). m.x) is_same_row-equivalence) (and_equiv (on_equiv (λ (m : Matrix). m.y) is_same_row-equivalence) (on_equiv (λ (m : Matrix). m.z) is_same_row-equivalence))
+pub is_same_matrix-equivalence : IsEquivalence is_same_matrix
+is_same_matrix-equivalence =
+    and_equiv (and_equiv (on_equiv (λ (m : Matrix). m.x) is_same-equivalence) (on_equiv (λ (m : Matrix). m.y) is_same-equivalence)) (on_equiv (λ (m : Matrix). m.z) is_same-equivalence)

@@ -1,6 +1,6 @@
 ghost use Rattle.std.specs.Prelude.{◌≡◌, ◌<◌, ◌^◌};
 ghost use Rattle.gx_num.specs.Vector.{IsWithin, dot_of};
-ghost use Rattle.gx_rotation.specs.Matrix.{product, transpose, identity, image, is_same, is_same-equivalence};
+ghost use Rattle.gx_rotation.specs.Matrix.{product, transpose, identity, image, is_same_matrix, is_same_matrix-equivalence};
 ghost use Rattle.std.specs.Cmp.{partial_equiv_from_equiv};
 ghost use Rattle.gx_rotation.specs.Rotation.{matrix_of, unit_vector};
 
@@ -72,9 +72,9 @@ impl Model for Rotation {
 }
 
 impl PartialEq for Rotation {
-    ghost eq = { is_same };
+    ghost eq = { is_same_matrix };
 
-    ghost laws = { partial_equiv_from_equiv is_same-equivalence };
+    ghost laws = { partial_equiv_from_equiv is_same_matrix-equivalence };
 
     fn eq(&self, other: &Rotation) -> bool {
         self.index == other.index
@@ -82,7 +82,7 @@ impl PartialEq for Rotation {
 }
 
 impl Eq for Rotation {
-    ghost laws = { is_same-equivalence };
+    ghost laws = { is_same_matrix-equivalence };
 }
 
 impl Rotation {

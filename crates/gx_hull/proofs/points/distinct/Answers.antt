@@ -3,9 +3,9 @@ use Rattle.std.proofs.Math.ListN.{drop_of_length-le}
 use Rattle.std.proofs.lemmas.List.{length_push, append-nil}
 use Rattle.std.proofs.lemmas.List.Elements.{All-same}
 use Rattle.gx_num.specs.declared.vector.V3.{V3}
-use Rattle.gx_num.specs.Vector.{IsWithin}
+use Rattle.gx_num.specs.Vector.{is_same, IsWithin}
 use Rattle.gx_plane.specs.Plane.{reach}
-use Rattle.gx_convex.specs.Points.{is_same, distinct_by, distinct}
+use Rattle.gx_convex.specs.Points.{distinct_by, distinct}
 use Rattle.gx_convex.proofs.Distinct.{All-distinct}
 use Rattle.gx_hull.proofs.HullFacts.{hull_of-too_many}
 use Rattle.gx_hull.proofs.Loops.{drop-at, first_time, passed_over, kept_now}

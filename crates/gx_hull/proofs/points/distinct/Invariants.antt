@@ -1,5 +1,6 @@
 use Rattle.std.proofs.Common.{◌≡◌, ◌≤◌, ◌++◌, length, drop, reverse}
-use Rattle.gx_convex.specs.Points.{is_same, distinct_by, distinct}
+use Rattle.gx_convex.specs.Points.{distinct_by, distinct}
+use Rattle.gx_num.specs.Vector.{is_same}
 use Rattle.gx_hull.proofs.points.distinct.Given as goal
 
 -- the points kept and those of the points to come are all distinct points
