@@ -7,4 +7,8 @@ pub enum SolidKind {
     Trd,
     /// `TET`: four points.
     Tet,
+    /// `EXTRUDED`: a convex polygon, scaled and moved at two heights.
+    Extruded,
+    /// `TESSELLATED`: facets of three or four corners, anticlockwise from outside.
+    Tessellated,
 }

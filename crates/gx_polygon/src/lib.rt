@@ -1,0 +1,2 @@
+//! Convex polygons: what makes one, and that its edges bound it. Definitions and proofs, no code.
+#![tactic(auto)]

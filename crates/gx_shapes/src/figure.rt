@@ -1,0 +1,32 @@
+ghost use Rattle.std.specs.Prelude.{◌≡◌};
+ghost use Rattle.gx_shapes.specs.Solid.{kind_of};
+
+use crate::{Facets, Polygon, Section, SolidKind};
+use gx_num::V3;
+
+/// A kind with its values, by what they mean.
+#[derive(Drop)]
+pub enum Figure {
+    /// hx hy hz.
+    Cuboid(i64, i64, i64),
+    /// dx1 dx2 dy1 dy2 dz.
+    Trd(i64, i64, i64, i64, i64),
+    Tet(V3, V3, V3, V3),
+    /// The polygon, and its two ends.
+    Extruded(Polygon, Section, Section),
+    Tessellated(Facets),
+}
+
+impl Figure {
+    pub fn kind(&self) -> SolidKind
+        ensures { result ≡ kind_of self.now }
+    {
+        match self {
+            Figure::Cuboid(..) => SolidKind::Cuboid,
+            Figure::Trd(..) => SolidKind::Trd,
+            Figure::Tet(..) => SolidKind::Tet,
+            Figure::Extruded(..) => SolidKind::Extruded,
+            Figure::Tessellated(_) => SolidKind::Tessellated,
+        }
+    }
+}
