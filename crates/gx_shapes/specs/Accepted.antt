@@ -43,7 +43,7 @@ pub record IsFigure (figure : Figure) : Type 0 where
 
 -- some values make a solid of the figure
 pub record IsSolid (figure : Figure) : Type 0 where
-  pub figure : IsFigure figure
+  pub values : IsFigure figure
   pub whole : whole_fault figure ≡ None
 
 -- ---- at the values given so far
