@@ -44,15 +44,18 @@ whole low high range = do
   n ← number
   if int_le low n && int_le n high then pure n else here range
 
-abbrev pub scale_from : List ℤ → Form Numbers Scale
-scale_from [] = next Words
-scale_from (n ∷ []) = next Words
-scale_from (n ∷ d ∷ left) = λ s. Ok (record { num = n; den = d }, record { count = s.count + 1; left = left })
+abbrev pub pair_from : List ℤ → Form Numbers Scale
+pair_from [] = next Words
+pair_from (n ∷ []) = next Words
+pair_from (n ∷ d ∷ left) = λ s. Ok (record { num = n; den = d }, record { count = s.count + 1; left = left })
+
+abbrev pub pair : Form Numbers Scale
+pair = λ s. pair_from s.left s
 
 -- two numbers at one place, the second above 0, neither above 2^62 in magnitude
 abbrev pub scale : Form Numbers Scale
 scale = do
-  s ← (λ s. scale_from s.left s)
+  s ← pair
   if nat_le (unsigned_abs s.num) (2 ^ 62) && int_lt (pos 0) s.den && nat_le (unsigned_abs s.den) (2 ^ 62) then pure s else here ScaleName
 
 abbrev pub numbers : Source Numbers
