@@ -1,61 +1,62 @@
 ghost use Rattle.std.specs.Prelude.{◌≡◌, IfOk};
 ghost use Rattle.gx_convex.specs.Points.{distinct};
-ghost use Rattle.gx_shapes.specs.Shape.{IsShape, vertices_of};
+ghost use Rattle.gx_shapes.specs.Solid.{kind_of, vertices_of};
+ghost use Rattle.gx_shapes.specs.Accepted.{IsSolid};
 
 use crate::Hull;
 use gx_num::NoMemory;
-use gx_shapes::SolidKind;
+use gx_shapes::{Figure, SolidKind};
 use std::alloc::Global;
 use std::marker::Model;
 
-/// A solid: a kind, values that make one, and the hull of its vertices. Contracts see kind and values.
+/// A solid: the figure of some values that make one, and the hull of its vertices. Contracts see the figure.
 #[derive(Drop)]
 pub struct Solid {
-    kind: SolidKind,
-    values: Vec<i64>,
+    figure: Figure,
     hull: Hull,
 }
 
 impl Model for Solid {
     ghost use Rattle.std.specs.Prelude.{◌≡◌};
     ghost use Rattle.gx_convex.specs.Points.{distinct};
-    ghost use Rattle.gx_shapes.specs.Shape.{Shape, IsShape, vertices_of};
+    ghost use Rattle.gx_shapes.specs.declared.figure.Figure.{Figure};
+    ghost use Rattle.gx_shapes.specs.Solid.{vertices_of};
+    ghost use Rattle.gx_shapes.specs.Accepted.{IsSolid};
 
-    ghost Value = { Shape };
+    ghost Value = { Figure };
 
-    ghost view = { λ s. record { kind = s.kind; values = s.values.items } };
+    ghost view = { λ s. s.figure };
 
-    ghost invariant = { λ s. IsShape (record { kind = s.kind; values = s.values.items }) × (s.hull ≡ distinct (vertices_of s.kind s.values.items)) };
+    ghost invariant = { λ s. IsSolid s.figure × (s.hull ≡ distinct (vertices_of s.figure)) };
 }
 
 impl Solid {
-    /// The solid of this kind with these values, whose hull is handed in.
-    pub fn seal(kind: SolidKind, values: Vec<i64>, hull: Hull) -> Solid
-        requires shape { IsShape (record { kind = kind; values = values.items }) }
-        requires hull { hull ≡ distinct (vertices_of kind values.items) }
-        ensures { result ≡ record { kind = kind; values = values.items } }
+    /// The solid of this figure, whose hull is handed in.
+    pub fn seal(figure: Figure, hull: Hull) -> Solid
+        requires solid { IsSolid figure }
+        requires hull { hull ≡ distinct (vertices_of figure) }
+        ensures { result ≡ figure }
     {
-        Solid { kind, values, hull }
+        Solid { figure, hull }
     }
 
     pub fn kind(&self) -> SolidKind
-        ensures { result ≡ self.now.kind }
+        ensures { result ≡ kind_of self.now }
     {
-        self.kind
+        self.figure.kind()
     }
 
-    /// The values, in the order of the kind's words.
-    pub fn values(&self) -> &[i64]
-        ensures value { result.now ≡ self.now.values }
-        ensures shape { IsShape self.now }
+    pub fn figure(&self) -> &Figure
+        ensures value { result.now ≡ self.now }
+        ensures solid { IsSolid self.now }
     {
-        &self.values
+        &self.figure
     }
 
     /// The hull of the vertices.
     pub fn hull(&self) -> &Hull
-        ensures value { result.now ≡ distinct (vertices_of self.now.kind self.now.values) }
-        ensures shape { IsShape self.now }
+        ensures value { result.now ≡ distinct (vertices_of self.now) }
+        ensures solid { IsSolid self.now }
     {
         &self.hull
     }
@@ -65,8 +66,7 @@ impl Solid {
         ensures { IfOk result (λ solid. solid ≡ self.now) }
     {
         Ok(Solid {
-            kind: self.kind,
-            values: Vec::from_slice(alloc, &self.values)?,
+            figure: self.figure.copy(alloc)?,
             hull: self.hull.copy(alloc)?,
         })
     }

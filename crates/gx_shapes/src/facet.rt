@@ -1,4 +1,4 @@
-ghost use Rattle.std.specs.Prelude.{◌≡◌, ◌++◌, [], ◌∷◌, OnOk};
+ghost use Rattle.std.specs.Prelude.{◌≡◌, ◌++◌, [], ◌∷◌, OnOk, IfOk};
 
 use gx_num::{NoMemory, V3};
 use std::alloc::Global;
@@ -48,5 +48,14 @@ impl Facets {
         ensures { result.now ≡ self.now }
     {
         &self.facets
+    }
+
+    /// Equal facets.
+    pub fn copy(&self, alloc: Global) -> Result<Facets, NoMemory>
+        ensures { IfOk result (λ facets. facets ≡ self.now) }
+    {
+        Ok(Facets {
+            facets: Vec::from_slice(alloc, &self.facets)?,
+        })
     }
 }

@@ -1,8 +1,9 @@
-ghost use Rattle.std.specs.Prelude.{◌≡◌};
+ghost use Rattle.std.specs.Prelude.{◌≡◌, IfOk};
 ghost use Rattle.gx_shapes.specs.Solid.{kind_of};
 
 use crate::{Facets, Polygon, Section, SolidKind};
-use gx_num::V3;
+use gx_num::{NoMemory, V3};
+use std::alloc::Global;
 
 /// A kind with its values, by what they mean.
 #[derive(Drop)]
@@ -27,6 +28,21 @@ impl Figure {
             Figure::Tet(..) => SolidKind::Tet,
             Figure::Extruded(..) => SolidKind::Extruded,
             Figure::Tessellated(_) => SolidKind::Tessellated,
+        }
+    }
+
+    /// An equal figure.
+    pub fn copy(&self, alloc: Global) -> Result<Figure, NoMemory>
+        ensures { IfOk result (λ figure. figure ≡ self.now) }
+    {
+        match self {
+            Figure::Cuboid(x, y, z) => Ok(Figure::Cuboid(*x, *y, *z)),
+            Figure::Trd(x1, x2, y1, y2, z) => Ok(Figure::Trd(*x1, *x2, *y1, *y2, *z)),
+            Figure::Tet(a, b, c, d) => Ok(Figure::Tet(*a, *b, *c, *d)),
+            Figure::Extruded(corners, low, high) => {
+                Ok(Figure::Extruded(corners.copy(), *low, *high))
+            }
+            Figure::Tessellated(facets) => Ok(Figure::Tessellated(facets.copy(alloc)?)),
         }
     }
 }

@@ -45,4 +45,14 @@ impl Polygon {
     {
         &self.corners[..self.count]
     }
+
+    /// An equal polygon.
+    pub fn copy(&self) -> Polygon
+        ensures { result ≡ self.now }
+    {
+        Polygon {
+            corners: self.corners,
+            count: self.count,
+        }
+    }
 }
