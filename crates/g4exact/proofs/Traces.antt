@@ -6,7 +6,7 @@ use Rattle.std.proofs.lemmas.List.{drop_more, drop_all}
 use Rattle.std.proofs.lemmas.Option.{slice_get_within, get_or_from_slice_get}
 use Rattle.gx_num.specs.declared.ray.Ray.{Ray}
 use Rattle.gx_navigator.proofs.Worlds.{report_of}
-use Rattle.gx_shapes.specs.Shape.{IsShape}
+use Rattle.gx_shapes.specs.Accepted.{IsSolid}
 use Rattle.gx_io.specs.Bytes.{with_after, AppendsFront}
 use Rattle.gx_io.proofs.Joined.{with_after-twice, with_after-nothing, front-of_first, front-of_second}
 use Rattle.gx_path.specs.Report.{Row, IsReport}
@@ -15,7 +15,7 @@ use Rattle.gx_tree.specs.World.{World, path_along}
 use Rattle.g4exact.specs.Output.{ray_text, IsTrace}
 
 -- each of the rays has a report
-traced_all : (world : World) → IsShape world.solid → (number : ℕ) (rays : List Ray) → AllByRecursion IsTraceable rays → (bytes : List ℕ) × IsTrace world number rays bytes
+traced_all : (world : World) → IsSolid world.solid → (number : ℕ) (rays : List Ray) → AllByRecursion IsTraceable rays → (bytes : List ℕ) × IsTrace world number rays bytes
 traced_all world shape number [] kept = ([], refl)
 traced_all world shape number (ray ∷ rays) kept =
     let report = report_of world ray shape kept.0.moves in
@@ -54,7 +54,7 @@ module _ (world : World) (rays : List Ray) (i : ℕ) (old mid new : Option (List
         (so_far.goes_on (ray_text world (i + 1) rows ++ rest) (next world rays i ray at rows report rest trace));
   }
 
-  pub traced_front : IsShape world.solid → AllByRecursion IsTraceable rays → AppendsFront mid new (ray_text world (i + 1) rows)
+  pub traced_front : IsSolid world.solid → AllByRecursion IsTraceable rays → AppendsFront mid new (ray_text world (i + 1) rows)
       → (bytes : List ℕ) × IsTrace world 1 rays bytes × AppendsFront old new bytes
   traced_front shape kept stopped =
       let rest = traced_all world shape (i + 1 + 1) (drop (i + 1) rays) (kept_after (i + 1) rays kept) in

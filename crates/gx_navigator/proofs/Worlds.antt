@@ -7,12 +7,13 @@ use Rattle.gx_num.specs.declared.ray.Ray.{Ray}
 use Rattle.gx_num.specs.Space.{HalfSpace, is_inside}
 use Rattle.gx_num.specs.Ray.{RayParameter, HasDirection, point_of_ray, IsPositive}
 use Rattle.gx_convex.specs.Points.{distinct}
-use Rattle.gx_shapes.specs.Shape.{IsShape, vertices_of}
+use Rattle.gx_shapes.specs.Accepted.{IsSolid}
+use Rattle.gx_shapes.specs.Solid.{vertices_of}
 use Rattle.gx_num.specs.declared.extent.Extent.{Extent}
 use Rattle.gx_convex.specs.Faces.{faces_of}
 use Rattle.gx_convex.specs.Extent.{extent_of}
 use Rattle.gx_convex.specs.Laws.{AreTheSolid, IsBetween}
-use Rattle.gx_solids.proofs.Faces.{are_the_solid}
+use Rattle.gx_shapes.proofs.Solids.{faces_are_the_solid_of}
 use Rattle.gx_path.specs.Report.{Row, IsReport}
 use Rattle.gx_tree.specs.World.{World, solid_of, path_along}
 use Rattle.gx_clip.specs.declared.span.Span.{Span}
@@ -60,15 +61,15 @@ IsClip-same solid other ray same (Some span) is = record {
   inside = λ t h. (λ e. (is.inside t h).0 (sym (same t h) ∙ e), λ b. same t h ∙ (is.inside t h).1 b);
 }
 
-module _ (world : World) (ray : Ray) (shape : IsShape world.solid) where
+module _ (world : World) (ray : Ray) (solid : IsSolid world.solid) where
   abbrev pub world_faces : List HalfSpace
-  world_faces = faces_of (distinct (vertices_of world.solid.kind world.solid.values))
+  world_faces = faces_of (distinct (vertices_of world.solid))
 
-  are : AreTheSolid (solid_of world) (distinct (vertices_of world.solid.kind world.solid.values))
-  are = are_the_solid world.solid.kind world.solid.values shape.accepted
+  are : AreTheSolid (solid_of world) (distinct (vertices_of world.solid))
+  are = faces_are_the_solid_of world.solid solid
 
   pub world_bounded : IsBounded world_faces
-  world_bounded = faces_bounded (solid_of world) (distinct (vertices_of world.solid.kind world.solid.values)) are
+  world_bounded = faces_bounded (solid_of world) (distinct (vertices_of world.solid)) are
 
   pub world_report : (clip : Option Span) → IsClip world_faces ray clip → IsReport (path_along world ray) (rows_of clip)
   world_report clip is =

@@ -1,5 +1,5 @@
 ghost use Rattle.std.specs.Prelude.{◌≡◌};
-ghost use Rattle.gx_shapes.specs.Shape.{IsShape};
+ghost use Rattle.gx_shapes.specs.Accepted.{IsSolid};
 
 use gx_hull::Solid;
 use std::marker::Model;
@@ -13,14 +13,14 @@ pub struct Hierarchy {
 }
 
 impl Model for Hierarchy {
-    ghost use Rattle.gx_shapes.specs.Shape.{IsShape};
+    ghost use Rattle.gx_shapes.specs.Accepted.{IsSolid};
     ghost use Rattle.gx_tree.specs.World.{World};
 
     ghost Value = { World };
 
     ghost view = { λ h. record { name = h.name.items; solid = h.solid; material = h.material.items } };
 
-    ghost invariant = { λ h. IsShape h.solid };
+    ghost invariant = { λ h. IsSolid h.solid };
 }
 
 impl Hierarchy {
@@ -51,7 +51,7 @@ impl Hierarchy {
     /// The world's solid.
     pub fn solid(&self) -> &Solid
         ensures value { result.now ≡ self.now.solid }
-        ensures shape { IsShape self.now.solid }
+        ensures solid { IsSolid self.now.solid }
     {
         &self.solid
     }
