@@ -1,0 +1,4 @@
+pub mod Convex
+pub mod Corners
+mod KnownPolygons
+pub mod Rounds
