@@ -3,8 +3,8 @@ use Rattle.std.proofs.Common.{◌≡◌, ℤ, true, false, pos, neg_ℤ, List, [
 use Rattle.gx_num.specs.declared.vector.V3.{V3}
 use Rattle.gx_num.specs.Space.{is_in, is_inside}
 use Rattle.gx_form.specs.Form.{collect_from}
-use Rattle.gx_table.specs.declared.fault.FaultName.TheVariants.{Half, Flat, Scale, Sections, Count, Vertices, TooFar}
-use Rattle.gx_shapes.specs.declared.fault.SolidFault.TheVariants.{At, Whole}
+use Rattle.gx_table.specs.declared.fault.FaultName.TheVariants.{Half, Flat, Scale, Count, Vertices}
+use Rattle.gx_shapes.specs.declared.fault.SolidFault.TheVariants.{Whole}
 use Rattle.gx_shapes.specs.declared.figure.Figure.TheVariants as figure
 use Rattle.gx_shapes.specs.declared.kind.SolidKind.TheVariants as kind
 use Rattle.gx_shapes.specs.Space.{point}

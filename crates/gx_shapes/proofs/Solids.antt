@@ -1,5 +1,5 @@
 -- Every kind: the vertices of a solid are its vertices, aren't coplanar, and are few and near; its faces are the solid.
-use Rattle.std.proofs.Common.{◌≡◌, ◌≤◌, ◌+◌, ℕ, zero, suc, Bool, true, false, not, Option, None, Some, List, [], ◌∷◌, ◌++◌, map, length, ℤ, pos, neg_ℤ, ◌<ℤ◌, unsigned_abs, All, refl, sym, ap, ◌∙◌, arith, length-append}
+use Rattle.std.proofs.Common.{◌≡◌, ◌≤◌, Bool, true, false, not, Option, None, Some, List, [], ◌∷◌, map, length, ℤ, pos, neg_ℤ, unsigned_abs, All, refl, ◌∙◌, arith, length-append}
 use Rattle.std.proofs.lemmas.List.{length-map}
 use Rattle.std.specs.Prelude.{nat_le}
 use Rattle.std.proofs.lemmas.List.Elements.{All-nil, All-cons, All-head, All-tail, All-append, All-map, All-weaker}
@@ -9,7 +9,6 @@ use Rattle.gx_num.specs.Vector.{IsWithin}
 use Rattle.gx_algebra.proofs.Lists.{All-four}
 use Rattle.gx_convex.specs.Points.{distinct, are_coplanar}
 use Rattle.gx_convex.specs.Hull.{IsHullOf}
-use Rattle.gx_convex.specs.Laws.{AreTheSolid}
 use Rattle.gx_convex.proofs.Distinct.{IsHullOf-distinct, length-distinct_le}
 use Rattle.gx_convex.proofs.Coplanar.{are_coplanar-distinct}
 use Rattle.gx_convex.proofs.Cutting.{faces_are_the_solid}
@@ -24,7 +23,7 @@ use Rattle.gx_shapes.specs.Space.{point}
 use Rattle.gx_shapes.specs.Straight.{corners, frustum}
 use Rattle.gx_shapes.specs.Extrusion.{corner, extrusion_vertices}
 use Rattle.gx_shapes.specs.Tessellation.{corners_of, fourth, tessellation_vertices}
-use Rattle.gx_shapes.specs.Figure.{is_near, are_near}
+use Rattle.gx_shapes.specs.Figure.{is_near}
 use Rattle.gx_shapes.specs.Solid.{solid_of, vertices_of, whole_fault, first_true}
 use Rattle.gx_shapes.specs.Accepted.{IsFigure, IsSolid}
 use Rattle.gx_shapes.specs.Laws.{FacesAreTheSolid}
@@ -68,10 +67,9 @@ hull_by (figure.Tet a b c d) is whole =
 hull_by (figure.Extruded cs s t) is whole =
     let bent = none_where (is_straight cs) Flat ((not (is_convex cs), NotConvex) ∷ []) whole in
     let convex = is_true_by (is_convex cs) (none_where (not (is_convex cs)) NotConvex [] bent.1).0 in
-    let flat = All-weaker IsCorner (λ (c : V3). c.z ≡ pos 0) (λ c h. h.flat) cs is.each in
-    (
+    let flat = All-weaker IsCorner (λ (c : V3). c.z ≡ pos 0) (λ c h. h.flat) cs is.each in (
       extrusion_hull s t cs is.above is.first.scale is.second.scale flat bent.0 convex,
-      extrusion_solid s t cs is.above is.first.scale is.second.scale flat bent.0 convex,
+      extrusion_solid s t cs is.above is.first.scale bent.0,
     )
 hull_by (figure.Tessellated facets) is whole = (tessellation_hull facets whole, tessellation_solid facets whole)
 

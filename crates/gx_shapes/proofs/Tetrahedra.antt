@@ -2,7 +2,7 @@
 use Rattle.std.proofs.Common.{◌≡◌, ◌≢◌, ◌↔◌, true, false, ℤ, pos, ◌+ℤ◌, ◌-ℤ◌, ◌*ℤ◌, neg_ℤ, ◌≤ℤ◌, ◌<ℤ◌, int_lt, List, [], ◌∷◌, true≢false, sym, ap, ◌∙◌, subst, arith}
 use Rattle.std.proofs.lemmas.Bool.{cond_both}
 use Rattle.gx_num.specs.declared.vector.V3.{V3}
-use Rattle.gx_num.specs.Vector.{dot_of, difference_of}
+use Rattle.gx_num.specs.Vector.{difference_of}
 use Rattle.gx_num.specs.Space.{HalfSpace, normal_dot}
 use Rattle.gx_num.specs.Vector4.{Vec4}
 use Rattle.gx_algebra.proofs.Ring.{Term}
