@@ -14,8 +14,9 @@ use Rattle.gx_reader.specs.declared.read.TheConstants.{MAX_TEXT}
 use Rattle.g4exact.specs.declared.outcome.Status.{Status}
 use Rattle.g4exact.specs.declared.outcome.Status.TheVariants.{Clean, Refuted, TextFault as Faulty, WordsFault, ReadFault, WriteFault, NoMemory}
 use Rattle.g4exact.specs.declared.command.Command.{Command}
-use Rattle.g4exact.specs.declared.command.Command.TheVariants.{Trace}
-use Rattle.g4exact.specs.Output.{IsOutput, IsTraceOf}
+use Rattle.g4exact.specs.declared.command.Command.TheVariants.{Reading}
+use Rattle.g4exact.specs.declared.command.Verb.{Verb}
+use Rattle.g4exact.specs.Output.{IsOutput, IsAnswer}
 use Rattle.g4exact.specs.Ends.{WritesAll, Ends, IsTold, Blames, HasFailed, Answers, IsReadOut, most_read}
 
 -- some text is told
@@ -24,11 +25,11 @@ told None = ([], tt)
 told (Some text) = (text, refl)
 
 -- what ends by its status, and blames by it, is complete where no device failed
-pub answered : (output : List ℕ → Status → Type 0) (old new : Option (List ℕ)) (s s' k k' : ℕ) (status : Status)
-    → Ends output old new status → Blames s s' k k' status → Answers output old new (HasFailed s s' k k') status
-answered output old new s s' k k' status e b = record { ends = e; complete = complete status e b }
+pub answered : (command : Option Command) (text : List ℕ) (old new : Option (List ℕ)) (s s' k k' : ℕ) (status : Status)
+    → Ends command (IsOutput command text) old new status → Blames s s' k k' status → Answers command text old new (HasFailed s s' k k') status
+answered command text old new s s' k k' status e b = record { ends = e; complete = complete status e b }
   where
-    complete : (status : Status) → Ends output old new status → Blames s s' k k' status → (HasFailed s s' k k' → ⊥) → WritesAll output old new status ⊎ (status ≡ NoMemory)
+    complete : (status : Status) → Ends command (IsOutput command text) old new status → Blames s s' k k' status → (HasFailed s s' k k' → ⊥) → WritesAll (IsOutput command text) old new status ⊎ (status ≡ NoMemory)
     complete Clean e b p = inl e
     complete Refuted e b p = inl e
     complete Faulty e b p = inl e
@@ -72,9 +73,9 @@ reads_all (Some text) (Some rest) taken e h end =
     long_text text taken rest q l = omega (arith, ap length q, length-append taken rest)
 
 -- texts that read as one have one output
-pub same_output : (command : Command) (text taken : List ℕ) (old new : Option (List ℕ)) (status : Status) → ((grid : Fraction) → reading grid text ≡ reading grid taken)
-    → Ends (IsOutput (Some command) taken) old new status → Ends (IsOutput (Some command) text) old new status
-same_output (Trace grid) text taken old new status e h = subst (λ read. Ends (IsTraceOf read) old new status) (sym (e grid)) h
+pub same_output : (verb : Verb) (grid : Fraction) (text taken : List ℕ) (old new : Option (List ℕ)) (status : Status) → ((grid : Fraction) → reading grid text ≡ reading grid taken)
+    → Ends (Some (Reading verb grid)) (IsAnswer verb (reading grid taken)) old new status → Ends (Some (Reading verb grid)) (IsOutput (Some (Reading verb grid)) text) old new status
+same_output verb grid text taken old new status e h = subst (λ read. Ends (Some (Reading verb grid)) (IsAnswer verb read) old new status) (sym (e grid)) h
 
 -- a source that was read out is so at each status
 pub read_out : (old new : Option (List ℕ)) (taken : List ℕ) (status : Status) → length taken ≤ most_read → old ≡ with_before taken new → new ≡ option_map (drop most_read) old → IsReadOut old new status

@@ -1,5 +1,6 @@
 -- The words after the program's name, and the commands that they are.
-use Rattle.std.specs.Prelude.{ℕ, pos, List, [], ◌∷◌, take, drop, Option, None, Some, Result, Ok, Err, if◌then◌else◌, codes}
+use Rattle.std.specs.Prelude.{◌≡◌, ℕ, pos, List, [], ◌∷◌, take, drop, Option, None, Some, Result, Ok, Err, if◌then◌else◌, codes}
+use Rattle.std.specs.Option.{option_and_then, option_map}
 use Rattle.std.specs.Str.{bytes_eq}
 use Rattle.gx_fraction.specs.Fraction.{Fraction}
 use Rattle.gx_expr.specs.declared.fault.ExprFault.{ExprFault}
@@ -8,7 +9,14 @@ use Rattle.gx_expr.specs.Convert.{is_grid}
 use Rattle.gx_expr.specs.Eval.{value_of_word}
 use Rattle.g4exact.specs.declared.command.Options.{Options}
 use Rattle.g4exact.specs.declared.command.Command.{Command}
-use Rattle.g4exact.specs.declared.command.Command.TheVariants.{Trace}
+use Rattle.g4exact.specs.declared.command.Command.TheVariants.{Reading}
+use Rattle.g4exact.specs.declared.command.Verb.{Verb}
+use Rattle.g4exact.specs.declared.command.Verb.TheVariants.{Trace}
+
+-- the words after the program's name, of the arguments that were given; none where these are no texts
+abbrev pub AreWords : {A E X : Type 0} → (A → List X) → Result A E → List X → Type 0
+AreWords items (Ok given) words = words ≡ drop 1 (items given)
+AreWords items (Err error) words = words ≡ []
 
 -- the step of a grid that an expression gives: above 0, and no angle
 abbrev pub step_of : Result Quantity ExprFault → Option Fraction
@@ -28,14 +36,10 @@ with_grid None None = None
 with_grid None (Some grid) = Some (record { grid = Some grid })
 with_grid (Some before) grid = None
 
-abbrev pub and_options : Option Options → (Options → Option Options) → Option Options
-and_options None next = None
-and_options (Some options) next = next options
-
 -- the options that words are, in any order
 abbrev pub options_from : Options → List (List ℕ) → Option Options
 options_from options [] = Some options
-options_from options (word ∷ words) = and_options (with_grid options.grid (grid_of word)) (λ next. options_from next words)
+options_from options (word ∷ words) = option_and_then (λ next. options_from next words) (with_grid options.grid (grid_of word))
 
 -- a tenth of a millimetre
 abbrev pub default_grid : Fraction
@@ -45,11 +49,14 @@ abbrev pub grid_or : Option Fraction → Fraction
 grid_or None = default_grid
 grid_or (Some grid) = grid
 
-abbrev pub trace_with : Option Options → Option Command
-trace_with None = None
-trace_with (Some options) = Some (Trace (grid_or options.grid))
+-- what is done with a text: `trace`, and no others so far
+abbrev pub verb_of : List ℕ → Option Verb
+verb_of word = if bytes_eq word (codes "trace") then Some Trace else None
 
--- `trace [--grid=EXPR]`, and no others so far
+abbrev pub reading_with : Verb → Options → Command
+reading_with verb options = Reading verb (grid_or options.grid)
+
+-- a verb, and then its options: `[--grid=EXPR]`
 abbrev pub command_of : List (List ℕ) → Option Command
 command_of [] = None
-command_of (first ∷ words) = if bytes_eq first (codes "trace") then trace_with (options_from no_options words) else None
+command_of (first ∷ words) = option_and_then (λ verb. option_map (reading_with verb) (options_from no_options words)) (verb_of first)

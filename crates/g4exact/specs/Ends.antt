@@ -5,8 +5,10 @@ use Rattle.gx_io.specs.Bytes.{with_after, with_before, next_fault, AppendsFront,
 use Rattle.gx_io.specs.declared.fault.Failed.{Failed}
 use Rattle.gx_reader.specs.declared.input.Input.{Input}
 use Rattle.gx_reader.specs.declared.read.TheConstants.{MAX_TEXT}
-use Rattle.g4exact.specs.Output.{IsTrace}
+use Rattle.g4exact.specs.Output.{IsTrace, IsOutput}
 use Rattle.g4exact.specs.declared.command.Command.{Command}
+use Rattle.g4exact.specs.declared.command.Command.TheVariants.{Reading}
+use Rattle.g4exact.specs.declared.command.Verb.TheVariants.{Trace}
 use Rattle.g4exact.specs.declared.outcome.Status.{Status}
 use Rattle.g4exact.specs.declared.outcome.Status.TheVariants.{Clean, Refuted, TextFault, WordsFault, ReadFault, WriteFault, NoMemory}
 
@@ -27,12 +29,17 @@ WritesFront output old new = (bytes : List ℕ) × (status : Status) × output b
 abbrev pub WritesTrace : Input → Option (List ℕ) → Option (List ℕ) → Result (Unit {0}) Failed → Type 0
 WritesTrace input old new result = (bytes : List ℕ) × IsTrace input.tree 1 input.rays bytes × Writes old new bytes result
 
--- All of the output is written at the statuses that tell it, a front of it at a write fault, and nothing at a read fault or for want of memory.
-abbrev pub Ends : (List ℕ → Status → Type 0) → Option (List ℕ) → Option (List ℕ) → Status → Type 0
-Ends output old new WriteFault = WritesFront output old new
-Ends output old new ReadFault = new ≡ old
-Ends output old new NoMemory = new ≡ old
-Ends output old new status = WritesAll output old new status
+-- What was written where memory was wanting, by the command: nothing, since all memory is taken before the first byte is written.
+abbrev pub Wants : Option Command → (List ℕ → Status → Type 0) → Option (List ℕ) → Option (List ℕ) → Type 0
+Wants None output old new = new ≡ old
+Wants (Some (Reading Trace grid)) output old new = new ≡ old
+
+-- All of the output is written at the statuses that tell it, a front of it at a write fault, and nothing at a read fault.
+abbrev pub Ends : Option Command → (List ℕ → Status → Type 0) → Option (List ℕ) → Option (List ℕ) → Status → Type 0
+Ends command output old new WriteFault = WritesFront output old new
+Ends command output old new ReadFault = new ≡ old
+Ends command output old new NoMemory = Wants command output old new
+Ends command output old new status = WritesAll output old new status
 
 -- one byte past the most of a text
 abbrev pub most_read : ℕ
@@ -51,7 +58,7 @@ IsReadOut old new status = new ≡ option_map (drop most_read) old
 
 abbrev pub IsRead : Option Command → Option (List ℕ) → Option (List ℕ) → Status → Type 0
 IsRead None old new status = new ≡ old
-IsRead (Some command) old new status = IsReadOut old new status
+IsRead (Some (Reading verb grid)) old new status = IsReadOut old new status
 
 -- words that are no command end with the usage line, or at a write fault
 abbrev pub NamesWords : Status → Type 0
@@ -74,9 +81,9 @@ abbrev pub HasFailed : ℕ → ℕ → ℕ → ℕ → Type 0
 HasFailed source source' sink sink' = (source' ≡ next_fault source) ⊎ (sink' ≡ next_fault sink)
 
 -- What was written of a text's output is as the status tells; and where no device failed, it is all, unless memory was wanting.
-pub record Answers (output : List ℕ → Status → Type 0) (old new : Option (List ℕ)) (failed : Type 0) (status : Status) : Type 0 where
-  pub ends : Ends output old new status
-  pub complete : (failed → ⊥) → WritesAll output old new status ⊎ (status ≡ NoMemory)
+pub record Answers (command : Option Command) (text : List ℕ) (old new : Option (List ℕ)) (failed : Type 0) (status : Status) : Type 0 where
+  pub ends : Ends command (IsOutput command text) old new status
+  pub complete : (failed → ⊥) → WritesAll (IsOutput command text) old new status ⊎ (status ≡ NoMemory)
 
 -- the program's exit status
 abbrev pub code_of : Status → ℕ

@@ -9,7 +9,9 @@ use Rattle.gx_reader.specs.declared.input.Input.{Input}
 use Rattle.gx_reader.specs.Reading.{reading}
 use Rattle.gx_print.specs.Texts.{usage_line, ray_head, row_text, fault_line}
 use Rattle.g4exact.specs.declared.command.Command.{Command}
-use Rattle.g4exact.specs.declared.command.Command.TheVariants.{Trace}
+use Rattle.g4exact.specs.declared.command.Command.TheVariants.{Reading}
+use Rattle.g4exact.specs.declared.command.Verb.{Verb}
+use Rattle.g4exact.specs.declared.command.Verb.TheVariants.{Trace}
 use Rattle.g4exact.specs.declared.outcome.Status.{Status}
 use Rattle.g4exact.specs.declared.outcome.Status.TheVariants.{Clean, TextFault as Faulty, WordsFault}
 
@@ -23,12 +25,16 @@ IsTrace world number [] bytes = bytes ≡ []
 IsTrace world number (ray ∷ rays) bytes =
     (rows : List Row) × (rest : List ℕ) × IsReport (path_along world ray) rows × IsTrace world (number + 1) rays rest × (bytes ≡ ray_text world number rows ++ rest)
 
--- the line of the text's fault; or where there is none, the trace of its rays
-abbrev pub IsTraceOf : Result Input TextFault → List ℕ → Status → Type 0
-IsTraceOf (Err fault) bytes status = (bytes ≡ fault_line fault) × (status ≡ Faulty)
-IsTraceOf (Ok input) bytes status = IsTrace input.tree 1 input.rays bytes × (status ≡ Clean)
+-- what a verb writes of an input
+abbrev pub IsWritten : Verb → Input → List ℕ → Status → Type 0
+IsWritten Trace input bytes status = IsTrace input.tree 1 input.rays bytes × (status ≡ Clean)
+
+-- the line of the text's fault; or where there is none, what the verb writes
+abbrev pub IsAnswer : Verb → Result Input TextFault → List ℕ → Status → Type 0
+IsAnswer verb (Err fault) bytes status = (bytes ≡ fault_line fault) × (status ≡ Faulty)
+IsAnswer verb (Ok input) bytes status = IsWritten verb input bytes status
 
 -- the output of a command for a text; words that are no command have the usage line
 abbrev pub IsOutput : Option Command → List ℕ → List ℕ → Status → Type 0
 IsOutput None text bytes status = (bytes ≡ usage_line) × (status ≡ WordsFault)
-IsOutput (Some (Trace grid)) text bytes status = IsTraceOf (reading grid text) bytes status
+IsOutput (Some (Reading verb grid)) text bytes status = IsAnswer verb (reading grid text) bytes status

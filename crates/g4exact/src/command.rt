@@ -1,6 +1,6 @@
 ghost use Rattle.std.specs.Prelude.{◌≡◌, [], map, string_bytes};
 ghost use Rattle.gx_expr.specs.Eval.{value_of_word};
-ghost use Rattle.g4exact.specs.Commands.{step_of, grid_of, with_grid, options_from, no_options, command_of};
+ghost use Rattle.g4exact.specs.Commands.{step_of, grid_of, with_grid, options_from, no_options, verb_of, command_of};
 
 use gx_expr::{Grid, Params, eval};
 use std::alloc::Global;
@@ -10,7 +10,15 @@ const OPTION: &[u8; 7] = b"--grid=";
 /// What the words ask for.
 #[derive(Clone, Copy, Debug, PartialEq, Eq)]
 pub enum Command {
-    Trace { grid: Grid },
+    /// A text is read, with lengths in steps of the grid, and the verb says what is written of it.
+    Reading { verb: Verb, grid: Grid },
+}
+
+/// What is written of a text.
+#[derive(Clone, Copy, Debug, PartialEq, Eq)]
+pub enum Verb {
+    /// Each ray's report.
+    Trace,
 }
 
 /// The command that the words after the program's name are, if they are one. Takes no memory.
@@ -20,13 +28,21 @@ pub fn command_from(alloc: Global, words: &[String]) -> Option<Command>
     let [first, words @ ..] = words else {
         return None;
     };
-    if first.as_str() != "trace" {
-        return None;
-    }
+    let verb = verb_from(first.as_str())?;
     let options = options_of(alloc, words)?;
-    Some(Command::Trace {
+    Some(Command::Reading {
+        verb,
         grid: options.grid.unwrap_or(Grid::tenth()),
     })
+}
+
+fn verb_from(word: &str) -> Option<Verb>
+    ensures { result ≡ verb_of word.now }
+{
+    match word {
+        "trace" => Some(Verb::Trace),
+        _ => None,
+    }
 }
 
 // The options of a command, each at most once.

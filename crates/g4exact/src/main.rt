@@ -1,34 +1,34 @@
 //! Reads a detector geometry and rays as text, and writes each ray's exact report.
 #![tactic(auto)]
 
+mod answer;
 mod command;
 mod outcome;
 mod run;
 #[cfg(test)]
 mod tests;
 mod trace;
+mod words;
 
 ghost use Rattle.std.specs.Prelude.{◌≡◌, ◌<◌, ℕ, List, map, string_bytes};
 ghost use Rattle.g4exact.specs.Commands.{command_of};
-ghost use Rattle.g4exact.specs.Output.{IsOutput};
 ghost use Rattle.g4exact.specs.declared.outcome.Status.TheVariants.{ReadFault};
 ghost use Rattle.g4exact.specs.Ends.{IsTold, IsRead, JudgesWords, Blames, HasFailed, Answers};
 
-pub use command::Command;
+pub use command::{Command, Verb};
 use gx_io::{Sink, Source, StdSink, StdSource};
 use gx_steps::Steps;
 pub use outcome::{Status, exit_code};
 pub use run::run;
-use std::alloc::{AllocError, Global};
+use std::alloc::Global;
 use std::env;
-use std::io::ErrorKind;
 use std::marker::Brand;
 use std::process::ExitCode;
-use std::rt::Env;
 use std::sync::ledger::{Blank, Ledger};
+use words::words_from;
 
 fn main(rt: HostRuntime) -> ExitCode {
-    let Ok(words) = words_of(&rt) else {
+    let Ok(words) = words_from(rt.alloc(), env::args(&rt)) else {
         return ExitCode::from(exit_code(Status::NoMemory));
     };
     let mut source = StdSource::new(rt.stdin());
@@ -42,19 +42,6 @@ fn main(rt: HostRuntime) -> ExitCode {
         Blank::new(1),
     );
     ExitCode::from(exit_code(status))
-}
-
-// The words after the program's name. Words that are no text are no command, and so are none.
-fn words_of(rt: &(impl Env + AllocGlobal)) -> Result<Vec<String>, AllocError> {
-    match env::args(rt) {
-        Ok(words) => words.skip(1).collect(rt.alloc()),
-        Err(error) => {
-            if error.kind() == ErrorKind::OutOfMemory {
-                return Err(AllocError);
-            }
-            Ok(Vec::new(rt.alloc()))
-        }
-    }
 }
 
 // Opens the two counters, and runs. What it ensures is what `run` does.
@@ -73,7 +60,7 @@ fn counted<S: Source, K: Sink, T: Ledger, Q: Ledger>(
     requires reads_parts { reads.parts ≡ Q.parts }
     requires some_reads { 0 < Q.parts }
     ensures output { (text : List ℕ) × IsTold (S.left source.old) text
-        × Answers (IsOutput (command_of (map string_bytes words.now)) text) (K.written sink.old) (K.written sink.new)
+        × Answers (command_of (map string_bytes words.now)) text (K.written sink.old) (K.written sink.new)
         (HasFailed (S.faults source.old) (S.faults source.new) (K.faults sink.old) (K.faults sink.new)) result }
     ensures read { IsRead (command_of (map string_bytes words.now)) (S.left source.old) (S.left source.new) result }
     ensures words { JudgesWords (command_of (map string_bytes words.now)) result }

@@ -1,13 +1,15 @@
 ghost use Rattle.std.specs.Prelude.{◌≡◌, ℕ, List, map, string_bytes, Some, None};
 ghost use Rattle.g4exact.specs.Commands.{command_of};
 ghost use Rattle.g4exact.specs.Output.{IsOutput};
+ghost use Rattle.g4exact.specs.declared.command.Command.TheVariants.{Reading};
 ghost use Rattle.g4exact.specs.declared.outcome.Status.TheVariants.{ReadFault};
 ghost use Rattle.g4exact.specs.Ends.{Ends, IsTold, IsRead, JudgesWords, NamesWords, Blames, HasFailed, Answers};
 
-use crate::command::{Command, command_from};
+use crate::answer::answer;
+use crate::command::{Command, Verb, command_from};
 use crate::outcome::Status;
-use crate::trace::trace;
 use gx_io::{ReadError, Sink, Source, read_up_to};
+use gx_expr::Grid;
 use gx_print::print_usage;
 use gx_reader::MAX_TEXT;
 use gx_steps::Steps;
@@ -26,7 +28,7 @@ pub fn run<S: Source, K: Sink, T: Ledger, Q: Ledger>(
     // What is written is the output for the words and the source's bytes: all of it, a front of it, or nothing, by the status;
     // where neither count of faults is the next one, all of it, unless memory was wanting.
     ensures output { (text : List ℕ) × IsTold (S.left source.old) text
-        × Answers (IsOutput (command_of (map string_bytes words.now)) text) (K.written sink.old) (K.written sink.new)
+        × Answers (command_of (map string_bytes words.now)) text (K.written sink.old) (K.written sink.new)
         (HasFailed (S.faults source.old) (S.faults source.new) (K.faults sink.old) (K.faults sink.new)) result }
 
     // What is read: nothing, or everything up to one byte past the most of a text; at a fault or for want of memory, some of that.
@@ -46,43 +48,34 @@ pub fn run<S: Source, K: Sink, T: Ledger, Q: Ledger>(
     ensures reads { reads.new ≡ reads.old }
 {
     match command_from(alloc, words) {
-        Some(command) => execute(alloc, command, source, sink),
+        Some(Command::Reading { verb, grid }) => read(alloc, verb, &grid, source, sink),
         None => usage(sink),
     }
 }
 
-// Reads the source, and writes the command's output for its text.
-fn execute<S: Source, K: Sink>(
+// Reads the source, and writes what the verb writes of its text.
+fn read<S: Source, K: Sink>(
     alloc: Global,
-    command: Command,
+    verb: Verb,
+    grid: &Grid,
     source: &mut S,
     sink: &mut K,
 ) -> Status
     ensures output { (text : List ℕ) × IsTold (S.left source.old) text
-        × Ends (IsOutput (Some command) text) (K.written sink.old) (K.written sink.new) result }
-    ensures read { IsRead (Some command) (S.left source.old) (S.left source.new) result }
+        × Ends (Some (Reading verb grid.now)) (IsOutput (Some (Reading verb grid.now)) text) (K.written sink.old) (K.written sink.new) result }
+    ensures read { IsRead (Some (Reading verb grid.now)) (S.left source.old) (S.left source.new) result }
     ensures blames { Blames (S.faults source.old) (S.faults source.new) (K.faults sink.old) (K.faults sink.new) result }
     ensures last { result ≡ ReadFault → (before : S) × (S.faults before ≡ S.faults source.old) × S.fails before source.new }
 {
     match read_up_to(alloc, source, MAX_TEXT + 1) {
-        Ok(text) => answer(alloc, command, &text, sink),
+        Ok(text) => answer(alloc, verb, grid, &text, sink),
         Err(ReadError::Failed) => Status::ReadFault,
         Err(ReadError::NoMemory) => Status::NoMemory,
     }
 }
 
-// Writes the command's output for a text.
-fn answer<K: Sink>(alloc: Global, command: Command, text: &[u8], sink: &mut K) -> Status
-    ensures output { Ends (IsOutput (Some command) text.now) (K.written sink.old) (K.written sink.new) result }
-    ensures blames { (source : ℕ) → Blames source source (K.faults sink.old) (K.faults sink.new) result }
-{
-    match command {
-        Command::Trace { grid } => trace(alloc, &grid, text, sink),
-    }
-}
-
 fn usage<K: Sink>(sink: &mut K) -> Status
-    ensures output { (text : List ℕ) → Ends (IsOutput None text) (K.written sink.old) (K.written sink.new) result }
+    ensures output { (text : List ℕ) → Ends None (IsOutput None text) (K.written sink.old) (K.written sink.new) result }
     ensures words { NamesWords result }
     ensures blames { (source : ℕ) → Blames source source (K.faults sink.old) (K.faults sink.new) result }
 {

@@ -1,24 +1,23 @@
-ghost use Rattle.std.specs.Prelude.{◌≡◌, List, ℕ};
+ghost use Rattle.std.specs.Prelude.{◌≡◌, List, ℕ, Some};
 ghost use Rattle.gx_io.specs.Bytes.{HasCause, Writes};
 ghost use Rattle.gx_reader.specs.Rays.{IsTraceable};
-ghost use Rattle.gx_reader.specs.Reading.{reading};
 ghost use Rattle.gx_tree.specs.World.{path_along};
 ghost use Rattle.gx_path.specs.Report.{Row, IsReport};
 ghost use Rattle.gx_navigator.specs.Rows.{rows_of};
-ghost use Rattle.gx_print.specs.Texts.{fault_line};
-ghost use Rattle.g4exact.specs.Output.{ray_text, IsTrace, IsTraceOf};
+ghost use Rattle.g4exact.specs.Output.{ray_text, IsTrace, IsWritten};
+ghost use Rattle.g4exact.specs.declared.command.Command.TheVariants.{Reading};
+ghost use Rattle.g4exact.specs.declared.command.Verb.TheVariants.{Trace};
+ghost use Rattle.gx_fraction.specs.Fraction.{Fraction};
 ghost use Rattle.g4exact.specs.Ends.{Ends, Blames, WritesTrace};
 
 use crate::outcome::Status;
 use gx_clip::Span;
-use gx_expr::Grid;
 use gx_io::{Buffer, Failed, Print, Sink, print_buffered};
 use gx_navigator::world_span;
 use gx_num::Ray;
-use gx_print::{print_fault, print_ray, print_row};
-use gx_reader::{Input, ReadError, TextFault, read_text};
+use gx_print::{print_ray, print_row};
+use gx_reader::Input;
 use gx_tree::Hierarchy;
-use std::alloc::Global;
 
 // Writes a ray's head, and the row of a span.
 #[tactic(auto, using(gx_io::proofs::Joined::joined))]
@@ -79,37 +78,13 @@ impl Print for Reports {
     }
 }
 
-// The line of a text's fault.
-#[derive(Drop)]
-struct FaultLine {
-    fault: TextFault,
-}
-
-impl Print for FaultLine {
-    ghost prints = { λ line bytes. bytes ≡ fault_line line.fault };
-
-    fn print<K: Sink>(&self, sink: &mut K) -> Result<(), Failed> {
-        print_fault(&self.fault, sink)
-    }
-}
-
-/// Writes what a text's trace is, in large pieces.
-pub fn trace<K: Sink>(alloc: Global, grid: &Grid, text: &[u8], sink: &mut K) -> Status
-    ensures output { Ends (IsTraceOf (reading grid.now text.now)) (K.written sink.old) (K.written sink.new) result }
+/// Writes the reports of an input's rays, in large pieces.
+pub fn trace<K: Sink>(input: Input, buffer: Buffer, sink: &mut K) -> Status
+    ensures output { (grid : Fraction) → Ends (Some (Reading Trace grid)) (IsWritten Trace input) (K.written sink.old) (K.written sink.new) result }
     ensures blames { (source : ℕ) → Blames source source (K.faults sink.old) (K.faults sink.new) result }
 {
-    let Ok(buffer) = Buffer::new(alloc) else {
-        return Status::NoMemory;
-    };
-    match read_text(alloc, grid, text) {
-        Ok(input) => match print_buffered(buffer, sink, &Reports { input }) {
-            Ok(()) => Status::Clean,
-            Err(Failed) => Status::WriteFault,
-        },
-        Err(ReadError::Text(fault)) => match print_buffered(buffer, sink, &FaultLine { fault }) {
-            Ok(()) => Status::TextFault,
-            Err(Failed) => Status::WriteFault,
-        },
-        Err(ReadError::NoMemory) => Status::NoMemory,
+    match print_buffered(buffer, sink, &Reports { input }) {
+        Ok(()) => Status::Clean,
+        Err(Failed) => Status::WriteFault,
     }
 }

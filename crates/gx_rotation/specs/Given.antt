@@ -3,15 +3,11 @@ use Rattle.std.specs.Prelude.{ℕ, ℤ, ◌+◌, ◌*ℤ◌, ◌-ℤ◌, ◌%◌
 use Rattle.std.specs.Option.{ok_or}
 use Rattle.std.specs.Ordering.{int_eq}
 use Rattle.gx_num.specs.declared.vector.V3.{V3}
+use Rattle.gx_form.specs.First.{◌>>=◌}
 use Rattle.gx_rotation.specs.declared.fault.RotationFault.{RotationFault}
 use Rattle.gx_rotation.specs.declared.fault.RotationFault.TheVariants.{NotAxis, Mirror}
 use Rattle.gx_rotation.specs.Matrix.{Matrix, transpose, product, determinant}
 use Rattle.gx_rotation.specs.Rotation.{takes_axes_to_axes}
-
--- the first fault, else what follows
-abbrev pub and_then : {A B : Type 0} → Result A RotationFault → (A → Result B RotationFault) → Result B RotationFault
-and_then (Ok a) next = next a
-and_then (Err e) next = Err e
 
 -- the value at a place; where there is none, the place is at fault
 abbrev pub value_at : {A : Type 0} → List (Option A) → ℕ → Result A RotationFault
@@ -61,9 +57,11 @@ turn axis q = if nat_eq axis 0 then turn_x q else (if nat_eq axis 1 then turn_y 
 
 -- three angles: first about x, then about y, then about z
 abbrev pub by_angles3 : List (Option ℕ) → Result Matrix RotationFault
-by_angles3 q =
-    and_then (value_at q 0) (λ x. and_then (value_at q 1) (λ y. and_then (value_at q 2) (λ z.
-    Ok (product (product (turn 2 z) (turn 1 y)) (turn 0 x)))))
+by_angles3 q = do
+  x ← value_at q 0
+  y ← value_at q 1
+  z ← value_at q 2
+  Ok (product (product (turn 2 z) (turn 1 y)) (turn 0 x))
 
 -- the direction of the angles theta, from z, and phi, about z from x
 unfoldable pub direction : ℕ → ℕ → V3
@@ -71,25 +69,30 @@ direction theta phi = record { x = sine theta *ℤ cosine phi; y = sine theta *�
 
 -- the direction of the two angles from a place on; phi may be missing where theta gives z or -z
 abbrev pub direction_at : List (Option ℕ) → ℕ → Result V3 RotationFault
-direction_at q place = and_then (value_at q place) (λ theta.
-    if int_eq (sine theta) (pos 0)
-    then Ok (direction theta 0)
-    else and_then (value_at q (place + 1)) (λ phi. Ok (direction theta phi)))
+direction_at q place = do
+  theta ← value_at q place
+  if int_eq (sine theta) (pos 0) then Ok (direction theta 0) else value_at q (place + 1) >>= (λ phi. Ok (direction theta phi))
 
 -- six angles: the images of the three axes, which are the columns
 abbrev pub by_angles6 : List (Option ℕ) → Result Matrix RotationFault
-by_angles6 q =
-    and_then (direction_at q 0) (λ x. and_then (direction_at q 2) (λ y. and_then (direction_at q 4) (λ z.
-    checked (transpose (record { x = x; y = y; z = z })))))
+by_angles6 q = do
+  x ← direction_at q 0
+  y ← direction_at q 2
+  z ← direction_at q 4
+  checked (transpose (record { x = x; y = y; z = z }))
 
 -- the three values from a place on
 abbrev pub row_at : List (Option ℤ) → ℕ → Result V3 RotationFault
-row_at values place =
-    and_then (value_at values place) (λ x. and_then (value_at values (place + 1)) (λ y.
-    and_then (value_at values (place + 2)) (λ z. Ok (record { x = x; y = y; z = z }))))
+row_at values place = do
+  x ← value_at values place
+  y ← value_at values (place + 1)
+  z ← value_at values (place + 2)
+  Ok (record { x = x; y = y; z = z })
 
 -- nine values: the rows
 abbrev pub by_matrix9 : List (Option ℤ) → Result Matrix RotationFault
-by_matrix9 values =
-    and_then (row_at values 0) (λ x. and_then (row_at values 3) (λ y. and_then (row_at values 6) (λ z.
-    checked (record { x = x; y = y; z = z }))))
+by_matrix9 values = do
+  x ← row_at values 0
+  y ← row_at values 3
+  z ← row_at values 6
+  checked (record { x = x; y = y; z = z })

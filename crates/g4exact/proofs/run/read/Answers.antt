@@ -1,7 +1,7 @@
 use Rattle.std.proofs.Common.{refl, arith}
 use Rattle.g4exact.proofs.Runs.{told, reads_all, ReadsAll, same_output, read_out, no_read_fault, blamed}
-use Rattle.g4exact.proofs.run.execute.Goals as goal
-use Rattle.g4exact.proofs.run.execute.Goals.{After-answer}
+use Rattle.g4exact.proofs.run.read.Goals as goal
+use Rattle.g4exact.proofs.run.read.Goals.{After-answer}
 
 whole : (g : _) (c : After-answer g) → ReadsAll (g.S.Source.left c.args.source.now) (g.S.Source.left c.read_up_to.new.source) c.deref.result.now
 whole g c =
@@ -12,7 +12,7 @@ whole g c =
 pub returns-in-Ok-clause-output : goal.returns-in-Ok-clause-output
 returns-in-Ok-clause-output g c =
     let w = whole g (goal.at.returns-in-Ok-clause-output g c).After-answer in
-    (w.text, w.told, same_output c.args.command w.text _ _ _ c.answer.result w.same c.answer.ensures.output)
+    (w.text, w.told, same_output c.args.verb c.args.grid.now w.text _ _ _ c.answer.result w.same c.answer.ensures.output)
 
 pub returns-in-Ok-clause-read : goal.returns-in-Ok-clause-read
 returns-in-Ok-clause-read g c = read_out _ _ _ c.answer.result (omega (arith, c.in-Ok.ensures.bound)) c.in-Ok.ensures.bytes (whole g (goal.at.returns-in-Ok-clause-read g c).After-answer).rest
