@@ -1,4 +1,0 @@
-pub mod Faces
-pub mod Hulls
-pub mod Places
-pub mod Values
