@@ -1,0 +1,2 @@
+mod Assumed
+mod Wholes

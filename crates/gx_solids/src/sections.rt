@@ -1,6 +1,6 @@
 //! Corners of a polygon in a section of an extrusion.
 
-ghost use Rattle.std.specs.Prelude.{◌≡◌, ◌≤◌, ◌<ℤ◌, ◌^◌, ◌+ℤ◌, ◌*ℤ◌, pos, unsigned_abs, int_div, int_rem};
+ghost use Rattle.std.specs.Prelude.{◌≡◌, ◌≤◌, ◌<ℤ◌, ◌^◌, ◌+ℤ◌, ◌*ℤ◌, pos, unsigned_abs, int_div, int_rem, nat_le};
 ghost use Rattle.std.specs.Ordering.{int_eq};
 ghost use Rattle.gx_num.specs.declared.vector.TheConstants.{M};
 ghost use Rattle.gx_num.specs.Vector.{IsWithin};
@@ -35,10 +35,18 @@ pub fn corner(section: Section, c: V3) -> V3
     ensures { result ≡ spec.corner section c }
 {
     V3 {
-        x: moved(section.x, section.scale, c.x) as i64,
-        y: moved(section.y, section.scale, c.y) as i64,
+        x: placed(section.x, section.scale, c.x),
+        y: placed(section.y, section.scale, c.y),
         z: section.z,
     }
+}
+
+fn placed(offset: i64, scale: Scale, k: i64) -> i64
+    requires positive { pos 0 <ℤ scale.den }
+    requires near { unsigned_abs (offset +ℤ spec.scaled scale k) ≤ unsigned_abs M }
+    ensures { result ≡ offset +ℤ spec.scaled scale k }
+{
+    moved(offset, scale, k) as i64
 }
 
 fn is_near(section: Section, c: V3) -> bool
