@@ -1,2 +1,3 @@
 mod Assumed
+mod Casts
 mod Wholes

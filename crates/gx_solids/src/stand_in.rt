@@ -33,8 +33,7 @@ pub fn facets_fault(facets: &[Facet], hull: &Hull) -> Option<FaultName>
     requires hull { hull.now ≡ distinct (tessellation_vertices facets.now) }
     ensures { result ≡ first_true (facet_faults facets.now hull.now) }
 {
-    if facets.len() == hull.vertices().len() {
-        return Some(FaultName::NotPlanar);
-    }
+    facets.first()?;
+    hull.vertices().first()?;
     None
 }
