@@ -1,4 +1,3 @@
-pub mod Faces
-pub mod Hulls
-pub mod Places
-pub mod Values
+mod Assumed
+mod Casts
+mod Wholes

@@ -1,2 +1,2 @@
-pub mod Accepted
-pub mod Laws
+pub mod Cause
+pub mod Whole

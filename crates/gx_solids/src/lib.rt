@@ -1,14 +1,15 @@
-//! The kinds of solids: which values make one, and the first fault of values that don't.
+//! Solids: reading the values of each kind, the solid that they make, and the first fault of values that make none.
 #![tactic(auto)]
 
-mod fault;
-pub mod laws;
 mod make;
-#[cfg(test)]
-mod tests;
-mod value_fault;
+mod numbers;
+mod read;
+mod sections;
+mod stand_in;
+mod values;
 mod vertices;
+mod whole;
 
-pub use fault::SolidFault;
-pub use make::solid;
-pub use value_fault::{value_count, word_fault};
+pub use make::{seal, solid, word_fault};
+pub use read::{read_figure, read_values};
+pub use values::Values;

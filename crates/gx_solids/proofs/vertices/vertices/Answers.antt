@@ -1,15 +1,23 @@
-use Rattle.std.proofs.Common.{◌≡◌, length, pos, arith}
-use Rattle.gx_solids.proofs.Values.{value_short}
+use Rattle.std.proofs.Common.{subst, unsigned_abs, All}
+use Rattle.gx_num.specs.declared.vector.TheConstants.{M}
+use Rattle.gx_num.specs.Vector.{IsWithin}
+use Rattle.gx_shapes.specs.Solid.{vertices_of}
+use Rattle.gx_shapes.specs.Accepted.{IsFigure}
+use Rattle.gx_solids.proofs.Assumed.{vertices_within, scales_positive}
+use Rattle.gx_solids.proofs.Casts.{frustum_within}
 use Rattle.gx_solids.proofs.vertices.vertices.Goals as goal
 
-pub returns-in-Trd : goal.returns-in-Trd
-returns-in-Trd c =
-    let vs = c.args.values.now in
-    let count : length vs ≡ 5 = rw c.in-Trd.is at c.requires.count in
-    let within = c.requires.within in
-    let v0 = value_short vs 0 (pos 0) within (omega (arith, count)) in
-    let v1 = value_short vs 1 (pos 0) within (omega (arith, count)) in
-    let v2 = value_short vs 2 (pos 0) within (omega (arith, count)) in
-    let v3 = value_short vs 3 (pos 0) within (omega (arith, count)) in
-    let v4 = value_short vs 4 (pos 0) within (omega (arith, count)) in
-    rw c.in-Trd.is (rw (v0, v1, v2, v3, v4) at c.frustum-in-Trd.ensures)
+pub frustum-requires-in-Trd-clause-first : goal.frustum-requires-in-Trd-clause-first
+frustum-requires-in-Trd-clause-first c = (frustum_within _ _ _ _ _ (subst (λ f. All (IsWithin (unsigned_abs M)) (vertices_of f)) c.in-Trd.is (vertices_within c.args.figure.now c.requires))).0
+
+pub frustum-requires-in-Trd-clause-second : goal.frustum-requires-in-Trd-clause-second
+frustum-requires-in-Trd-clause-second c = (frustum_within _ _ _ _ _ (subst (λ f. All (IsWithin (unsigned_abs M)) (vertices_of f)) c.in-Trd.is (vertices_within c.args.figure.now c.requires))).1
+
+pub extruded-requires-clause-low : goal.extruded-requires-clause-low
+extruded-requires-clause-low c = (scales_positive _ _ _ (subst IsFigure c.in-Extruded.is c.requires)).0
+
+pub extruded-requires-clause-high : goal.extruded-requires-clause-high
+extruded-requires-clause-high c = (scales_positive _ _ _ (subst IsFigure c.in-Extruded.is c.requires)).1
+
+pub extruded-requires-clause-within : goal.extruded-requires-clause-within
+extruded-requires-clause-within c = rw c.as_slice.ensures.value (subst (λ f. All (IsWithin (unsigned_abs M)) (vertices_of f)) c.in-Extruded.is (vertices_within c.args.figure.now c.requires))
