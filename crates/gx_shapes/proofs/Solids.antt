@@ -1,5 +1,5 @@
 -- Every kind: the vertices of a solid are its vertices, aren't coplanar, and are few and near; its faces are the solid.
-use Rattle.std.proofs.Common.{◌≡◌, ◌≤◌, Bool, true, false, not, Option, None, Some, List, [], ◌∷◌, map, length, ℤ, pos, neg_ℤ, unsigned_abs, All, refl, ◌∙◌, arith, length-append}
+use Rattle.std.proofs.Common.{◌≡◌, ◌≤◌, Bool, true, false, not, Option, None, Some, List, [], ◌∷◌, map, length, ℤ, pos, neg_ℤ, ◌<ℤ◌, unsigned_abs, All, refl, ◌∙◌, arith, length-append}
 use Rattle.std.proofs.lemmas.List.{length-map}
 use Rattle.std.specs.Prelude.{nat_le}
 use Rattle.std.proofs.lemmas.List.Elements.{All-nil, All-cons, All-head, All-tail, All-append, All-map, All-weaker}
@@ -128,6 +128,12 @@ within_by (figure.Tessellated facets) is = facets_within facets is
 
 pub vertices_within : (f : Figure) → IsFigure f → All (IsWithin bound) (vertices_of f)
 vertices_within f is = within_by f (given f is)
+
+pub polygon_within : (cs : List V3) (s t : Section) → IsFigure (figure.Extruded cs s t) → All (IsWithin bound) cs
+polygon_within cs s t is = All-weaker IsCorner (IsWithin bound) (λ c h. h.within) cs (given (figure.Extruded cs s t) is).each
+
+pub scales_positive : (cs : List V3) (s t : Section) → IsFigure (figure.Extruded cs s t) → (pos 0 <ℤ s.scale.den) × (pos 0 <ℤ t.scale.den)
+scales_positive cs s t is = let extrusion = given (figure.Extruded cs s t) is in (extrusion.first.scale.den, extrusion.second.scale.den)
 
 -- ---- and few
 few_by : (f : Figure) → IsGiven f → whole_fault f ≡ None → length (distinct (vertices_of f)) ≤ 32

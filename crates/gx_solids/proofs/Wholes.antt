@@ -16,7 +16,7 @@ use Rattle.gx_hull.specs.declared.fault.HullFault.{HullFault}
 use Rattle.gx_hull.specs.declared.fault.HullFault.TheVariants.{Vertices, Flat}
 use Rattle.gx_hull.specs.Hull.{hull_of}
 use Rattle.gx_solids.specs.Whole.{polygon_fault, facet_fault}
-use Rattle.gx_solids.proofs.Assumed.{whole_hull}
+use Rattle.gx_shapes.proofs.Solids.{whole_hull}
 
 module _ (points : List V3) where
   abbrev chosen : Bool → Bool → Result (List V3) HullFault

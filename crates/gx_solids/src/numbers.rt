@@ -66,7 +66,7 @@ impl<'a> Numbers<'a> {
     }
 
     fn pair(&mut self) -> Result<Scale, Fault>
-        ensures { Exactly (spec.scale_from self.old.left self.old) result self.new }
+        ensures { Exactly (spec.pair self.old) result self.new }
     {
         match self.left {
             [num, den, left @ ..] => {

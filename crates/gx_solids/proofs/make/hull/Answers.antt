@@ -1,7 +1,7 @@
 use Rattle.std.proofs.Common.{ap}
 use Rattle.gx_shapes.specs.Solid.{vertices_of}
 use Rattle.gx_shapes.specs.Accepted.{unless_whole}
-use Rattle.gx_solids.proofs.Assumed.{vertices_within}
+use Rattle.gx_shapes.proofs.Solids.{vertices_within}
 use Rattle.gx_solids.proofs.Wholes.{hull_points, whole_where_many, whole_where_flat, whole_where_hull}
 use Rattle.gx_solids.proofs.make.hull.Goals as goal
 

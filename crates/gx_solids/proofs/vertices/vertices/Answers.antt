@@ -3,7 +3,7 @@ use Rattle.gx_num.specs.declared.vector.TheConstants.{M}
 use Rattle.gx_num.specs.Vector.{IsWithin}
 use Rattle.gx_shapes.specs.Solid.{vertices_of}
 use Rattle.gx_shapes.specs.Accepted.{IsFigure}
-use Rattle.gx_solids.proofs.Assumed.{vertices_within, scales_positive}
+use Rattle.gx_shapes.proofs.Solids.{vertices_within, scales_positive}
 use Rattle.gx_solids.proofs.Casts.{frustum_within}
 use Rattle.gx_solids.proofs.vertices.vertices.Goals as goal
 

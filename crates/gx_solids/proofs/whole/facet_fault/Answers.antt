@@ -1,4 +1,4 @@
-use Rattle.gx_solids.proofs.Assumed.{vertices_within}
+use Rattle.gx_shapes.proofs.Solids.{vertices_within}
 use Rattle.gx_solids.proofs.whole.facet_fault.Goals as goal
 
 pub facets_fault-requires-clause-within : goal.facets_fault-requires-clause-within
