@@ -19,11 +19,12 @@ use Rattle.gx_reader.specs.declared.judge.Judge.{Judge}
 use Rattle.gx_reader.specs.declared.judge.Judge.TheVariants.{Name, ParamName, Kind, Expression, Steps, Extent}
 use Rattle.gx_reader.specs.declared.judge.Given.{Given}
 use Rattle.gx_reader.specs.declared.judge.Given.TheVariants.{Nothing, Number, Worthy, OfKind}
-use Rattle.gx_shapes.specs.declared.kind.SolidKind.{SolidKind}
-use Rattle.gx_shapes.specs.Shape.{Shape, value_count}
-use Rattle.gx_solids.specs.declared.fault.SolidFault.{SolidFault}
-use Rattle.gx_solids.specs.declared.fault.SolidFault.TheVariants.{At, Whole, NoMemory}
-use Rattle.gx_solids.specs.Accepted.{accepted}
+use Rattle.gx_shapes.specs.declared.figure.Figure.{Figure}
+use Rattle.gx_shapes.specs.declared.fault.SolidFault.{SolidFault}
+use Rattle.gx_shapes.specs.declared.fault.SolidFault.TheVariants.{At, Whole, NoMemory}
+use Rattle.gx_shapes.specs.Accepted.{accepted}
+use Rattle.gx_reader.specs.declared.kind.WorldKind.{WorldKind}
+use Rattle.gx_reader.specs.Kind.{solid_kind, value_count}
 use Rattle.gx_reader.specs.declared.declared.TheConstants.{MAX_PARAMS}
 use Rattle.gx_reader.specs.declared.input.TheConstants.{MAX_RAYS}
 use Rattle.gx_reader.specs.Judge.{number_in, values_in, kind_of, verdict, judged_from, not_built}
@@ -53,7 +54,7 @@ abbrev pub param_form : List Judge
 param_form = ParamName ∷ Expression ∷ []
 
 -- `:VOLU` NAME KIND values MATERIAL
-abbrev pub volume_form : Option SolidKind → List Judge
+abbrev pub volume_form : Option WorldKind → List Judge
 volume_form None = Name ∷ Kind ∷ []
 volume_form (Some kind) = Name ∷ Kind ∷ replicate (value_count kind) (Extent kind) ++ Name ∷ []
 
@@ -103,21 +104,20 @@ param_declared d words (Ok givens) = param_of d (word 2 words) (slice_index_or g
 -- ---- the world, and rays
 
 -- a world's name is word 2, and its material the word after its values
-abbrev pub world_made : List (List ℕ) → Result Shape SolidFault → Result World WordFault
-world_made words (Ok shape) = Ok (record { name = word 2 words; solid = shape; material = word (value_count shape.kind + 4) words })
-world_made words (Err (At place name)) = Err (record { word = place + 4; name = name })
-world_made words (Err (Whole name)) = Err (record { word = 3; name = name })
-world_made words (Err NoMemory) = not_built 3
+abbrev pub world_made : List (List ℕ) → WorldKind → Result Figure SolidFault → Result World WordFault
+world_made words kind (Ok figure) = Ok (record { name = word 2 words; solid = figure; material = word (value_count kind + 4) words })
+world_made words kind (Err (Whole name)) = Err (record { word = 3; name = name })
+world_made words kind (Err fault) = not_built 3
 
 -- from the values, without the material after them
-abbrev pub world_of : List (List ℕ) → SolidKind → List Given → Result World WordFault
-world_of words kind givens = world_made words (accepted kind (take (value_count kind) (values_in givens)))
+abbrev pub world_of : List (List ℕ) → WorldKind → List Given → Result World WordFault
+world_of words kind givens = world_made words kind (accepted (solid_kind kind) (take (value_count kind) (values_in givens)))
 
 abbrev pub with_world : Declarations → Result World WordFault → Result Declarations WordFault
 with_world d (Err fault) = Err fault
 with_world d (Ok world) = Ok (record { params = d.params; param_lines = d.param_lines; world = Some world; rays = d.rays })
 
-abbrev pub world_declared : Declarations → List (List ℕ) → Option SolidKind → Result (List Given) WordFault → Result Declarations WordFault
+abbrev pub world_declared : Declarations → List (List ℕ) → Option WorldKind → Result (List Given) WordFault → Result Declarations WordFault
 world_declared d words kind (Err fault) = Err fault
 world_declared d words None (Ok givens) = not_built 3
 world_declared d words (Some kind) (Ok givens) = with_world d (world_of words kind givens)

@@ -3,11 +3,13 @@ use Rattle.std.specs.Prelude.{ℕ, ◌+◌, ℤ, pos, Bool, ◌==◌, ◌&&◌, 
 use Rattle.std.specs.List.{list_all}
 use Rattle.std.specs.Str.{bytes_eq}
 use Rattle.gx_fraction.specs.Fraction.{Fraction}
+use Rattle.gx_form.specs.First.{◌>>=◌}
 use Rattle.gx_table.specs.declared.fault.FaultName.{FaultName}
 use Rattle.gx_table.specs.declared.fault.FaultName.TheVariants.{NotBuilt, Syntax as SyntaxName, UnknownParam as UnknownParamName, UnknownUnit as UnknownUnitName, DivideByZero as DivideByZeroName, TooWide as TooWideName, UnitKind as UnitKindName, OffGrid as OffGridName, TooFar as TooFarName}
-use Rattle.gx_shapes.specs.declared.kind.SolidKind.{SolidKind}
-use Rattle.gx_shapes.specs.declared.kind.SolidKind.TheVariants.{Cuboid, Trd, Tet}
-use Rattle.gx_shapes.specs.Shape.{ValueFault, first_fault}
+use Rattle.gx_shapes.specs.Accepted.{ValueFault, first_fault}
+use Rattle.gx_reader.specs.declared.kind.WorldKind.{WorldKind}
+use Rattle.gx_reader.specs.declared.kind.WorldKind.TheVariants.{Cuboid, Trd, Tet}
+use Rattle.gx_reader.specs.Kind.{solid_kind}
 use Rattle.gx_text.specs.Names.{is_name_of}
 use Rattle.gx_expr.specs.declared.fault.ExprFault.{ExprFault}
 use Rattle.gx_expr.specs.declared.fault.ExprFault.TheVariants.{Syntax, UnknownParam, UnknownUnit, DivideByZero, TooWide}
@@ -79,15 +81,15 @@ unless_fault n None = Ok (Number n)
 unless_fault n (Some fault) = Err fault.name
 
 -- one more value of a solid; no value so far has a fault
-abbrev pub as_extent : SolidKind → List Given → Result ℤ FaultName → Result Given FaultName
+abbrev pub as_extent : WorldKind → List Given → Result ℤ FaultName → Result Given FaultName
 as_extent kind givens (Err name) = Err name
-as_extent kind givens (Ok n) = unless_fault n (first_fault kind (values_in givens ++ n ∷ []))
+as_extent kind givens (Ok n) = unless_fault n (first_fault (solid_kind kind) (values_in givens ++ n ∷ []))
 
 -- the kinds of solids
-abbrev pub kind_of : List ℕ → Option SolidKind
+abbrev pub kind_of : List ℕ → Option WorldKind
 kind_of word = if bytes_eq word (codes "BOX") then Some Cuboid else if bytes_eq word (codes "TRD") then Some Trd else if bytes_eq word (codes "TET") then Some Tet else None
 
-abbrev pub as_kind : Option SolidKind → Result Given FaultName
+abbrev pub as_kind : Option WorldKind → Result Given FaultName
 as_kind None = Err NotBuilt
 as_kind (Some kind) = Ok (OfKind kind)
 
@@ -109,14 +111,10 @@ abbrev pub at_word : ℕ → Result Given FaultName → Result Given WordFault
 at_word i (Err name) = Err (record { word = i; name = name })
 at_word i (Ok given) = Ok given
 
-abbrev pub and_given : Result Given WordFault → (Given → Result (List Given) WordFault) → Result (List Given) WordFault
-and_given (Err fault) next = Err fault
-and_given (Ok given) next = next given
-
 -- The words from word i on, one for each judge, after what was given before; a missing word and a further one are faults at their
 -- place. The first fault counts.
 abbrev pub judged_from : (List Given → Judge → List ℕ → Result Given FaultName) → List Given → ℕ → List Judge → List (List ℕ) → Result (List Given) WordFault
 judged_from judge givens i [] [] = Ok givens
 judged_from judge givens i [] (word ∷ words) = not_built i
 judged_from judge givens i (j ∷ js) [] = not_built i
-judged_from judge givens i (j ∷ js) (word ∷ words) = and_given (at_word i (judge givens j word)) (λ given. judged_from judge (givens ++ given ∷ []) (i + 1) js words)
+judged_from judge givens i (j ∷ js) (word ∷ words) = at_word i (judge givens j word) >>= (λ given. judged_from judge (givens ++ given ∷ []) (i + 1) js words)

@@ -1,6 +1,7 @@
 pub mod Form
 pub mod Given
 pub mod Judge
+pub mod Kind
 pub mod Left
 pub mod Rays
 pub mod Reading

@@ -2,6 +2,7 @@
 use Rattle.std.specs.Prelude.{◌≡◌, ℕ, ◌+◌, List, [], ◌∷◌, length, Option, None, Some, Result, Ok, Err, nat_lt, if◌then◌else◌}
 use Rattle.gx_num.specs.declared.ray.Ray.{Ray}
 use Rattle.gx_fraction.specs.Fraction.{Fraction}
+use Rattle.gx_form.specs.First.{◌>>=◌}
 use Rattle.gx_table.specs.declared.fault.FaultName.{FaultName}
 use Rattle.gx_table.specs.declared.fault.FaultName.TheVariants.{NotBuilt, LongText, LongLine as LongLineName, NotAscii as NotAsciiName}
 use Rattle.gx_text.specs.declared.lines.LineFault.{LineFault}
@@ -31,14 +32,10 @@ with_line grid d (Err fault) = Err (line_fault fault)
 with_line grid d (Ok None) = Ok d
 with_line grid d (Ok (Some line)) = declare grid d line
 
-abbrev pub and_then : {A B : Type 0} → Result A TextFault → (A → Result B TextFault) → Result B TextFault
-and_then (Err fault) next = Err fault
-and_then (Ok a) next = next a
-
 -- the lines from this number on, in order; the first fault counts
 abbrev pub read_lines : Fraction → Declarations → ℕ → List (List ℕ) → Result Declarations TextFault
 read_lines grid d number [] = Ok d
-read_lines grid d number (line ∷ lines) = and_then (with_line grid d (ended number line)) (λ next. read_lines grid next (number + 1) lines)
+read_lines grid d number (line ∷ lines) = with_line grid d (ended number line) >>= (λ next. read_lines grid next (number + 1) lines)
 
 -- a text has a world
 abbrev pub input_of : Option World → List Ray → Result Input TextFault
@@ -49,7 +46,7 @@ input_of (Some world) rays = Ok (record { tree = world; rays = rays })
 abbrev pub reading : Fraction → List ℕ → Result Input TextFault
 reading grid text =
     if nat_lt MAX_TEXT (length text) then Err (fault_at 0 0 LongText)
-    else and_then (read_lines grid nothing_declared 1 (cut text)) (λ d. input_of d.world d.rays)
+    else read_lines grid nothing_declared 1 (cut text) >>= (λ d. input_of d.world d.rays)
 
 -- the cause of a reader's error: the text's fault; want of memory has none
 abbrev pub IsCause : {A : Type 0} → Result A TextFault → ReadError → Type 0

@@ -4,12 +4,13 @@ ghost use Rattle.gx_num.specs.declared.vector.TheConstants.{M};
 ghost use Rattle.gx_expr.specs.Eval.{value_of_word};
 ghost use Rattle.gx_expr.specs.Token.{is_name_byte};
 ghost use Rattle.gx_reader.specs.Judge.{name_of_expr, name_of_step, is_param_name as is_param_name_of, nothing_if, steps_of, number_in, values_in, unless_fault, as_value, as_steps, as_extent, kind_of, as_kind, at_word, verdict as verdict_of, judged_from};
-ghost use Rattle.gx_shapes.specs.Shape.{first_fault};
+ghost use Rattle.gx_shapes.specs.Accepted.{first_fault};
+ghost use Rattle.gx_reader.specs.Kind.{solid_kind};
 ghost use Rattle.gx_reader.specs.Given.{Fits, IsCauseAt};
 
 use crate::fault::{Refusal, WordFault};
 use gx_expr::{ExprFault, Grid, Params, StepFault, Value, eval, to_steps};
-use gx_shapes::SolidKind;
+use crate::kind::WorldKind;
 use gx_solids::word_fault;
 use gx_table::FaultName;
 use gx_text::{Line, is_name};
@@ -29,7 +30,7 @@ pub enum Judge {
     /// A whole number of steps.
     Steps,
     /// A value of a solid of this kind, after its name, its kind and the values before.
-    Extent(SolidKind),
+    Extent(WorldKind),
 }
 
 /// What a word is read as.
@@ -38,7 +39,7 @@ pub enum Given {
     Nothing,
     Number(i64),
     Worthy(Value),
-    OfKind(SolidKind),
+    OfKind(WorldKind),
 }
 
 /// What expressions and lengths are read by.
@@ -103,17 +104,17 @@ fn nothing(good: bool) -> Result<Given, FaultName>
 }
 
 /// The kind of solid that a word is.
-pub fn kind_from(word: &[u8]) -> Option<SolidKind>
+pub fn kind_from(word: &[u8]) -> Option<WorldKind>
     ensures { result ≡ kind_of word.now }
 {
     if word == b"BOX".as_slice() {
-        return Some(SolidKind::Cuboid);
+        return Some(WorldKind::Cuboid);
     }
     if word == b"TRD".as_slice() {
-        return Some(SolidKind::Trd);
+        return Some(WorldKind::Trd);
     }
     if word == b"TET".as_slice() {
-        return Some(SolidKind::Tet);
+        return Some(WorldKind::Tet);
     }
     None
 }
@@ -148,11 +149,11 @@ pub fn values(alloc: Global, givens: &[Given]) -> Result<Vec<i64>, AllocError>
         .collect(alloc)
 }
 
-fn unless_refused(kind: SolidKind, values: &[i64], number: i64) -> Result<Given, FaultName>
+fn unless_refused(kind: WorldKind, values: &[i64], number: i64) -> Result<Given, FaultName>
     requires { length values.now ≤ 4096 }
-    ensures { result ≡ unless_fault number (first_fault kind values.now) }
+    ensures { result ≡ unless_fault number (first_fault (solid_kind kind) values.now) }
 {
-    match word_fault(kind, values) {
+    match word_fault(kind.solid_kind(), values) {
         Some((_, name)) => Err(name),
         None => Ok(Given::Number(number)),
     }
@@ -209,7 +210,7 @@ impl Context<'_> {
     fn extent(
         &self,
         givens: &[Given],
-        kind: SolidKind,
+        kind: WorldKind,
         place: u32,
         word: &[u8],
     ) -> Result<Given, Refusal>

@@ -5,6 +5,7 @@ mod declared;
 mod fault;
 mod input;
 mod judge;
+mod kind;
 mod read;
 mod tag;
 mod word;
