@@ -8,15 +8,15 @@ use Rattle.std.proofs.lemmas.Int.{by_lt_z}
 use Rattle.std.proofs.lemmas.List.Elements.{All-weaker, All-map, All-contains_itself}
 use Rattle.std.proofs.lemmas.List.Sums.{AllPass-from_list_all, list_all-from_AllPass}
 use Rattle.gx_num.specs.declared.vector.V3.{V3}
+use Rattle.gx_num.specs.Vector.{is_same}
+use Rattle.gx_algebra.proofs.Laws.{mul-zero}
+use Rattle.gx_algebra.proofs.Lists.{Contains-map}
 use Rattle.gx_algebra.proofs.Terms.{◌≣◌, ◌⊖◌, ◌⊗◌}
 use Rattle.gx_algebra.proofs.Identity.{identity, vector3}
 use Rattle.gx_algebra.proofs.Identities.{same3}
 use Rattle.gx_algebra.proofs.Order.{square_nonneg, zero_of_mul, mul-eq-zero}
 use Rattle.gx_plane.specs.Between.{pairs_of, triples_of}
 use Rattle.gx_plane.proofs.TripleFacts.{All-triples_of}
-use Rattle.gx_num.specs.Vector.{is_same}
-use Rattle.gx_algebra.proofs.Lists.{Contains-map}
-use Rattle.gx_algebra.proofs.Laws.{mul-zero}
 use Rattle.gx_polygon.specs.Around.{around}
 use Rattle.gx_polygon.specs.Polygon.{turn, is_straight, are_distinct, are_left, edges_of, is_convex}
 use Rattle.gx_polygon.proofs.Corners.{IsConvex, along, along_term, turn_term}

@@ -15,7 +15,7 @@ use borrow.Author.Differences.{ints}
 
 -- ---- an element that is greatest in an order
 module _ {X : Type 0} (R : X → X → Type 0) (total : (a b : X) → R a b ⊎ R b a) (trans : (a b c : X) → R a b → R b c → R a c) where
-  pub greatest : (x : X) (xs : List X) → (m : X) × Contains (x ∷ xs) m × All (λ y. R y m) (x ∷ xs)
+  greatest : (x : X) (xs : List X) → (m : X) × Contains (x ∷ xs) m × All (λ y. R y m) (x ∷ xs)
   greatest x [] = (x, Contains-head x [], All-cons (λ y. R y x) x [] (⊎_elim (λ r. r) (λ r. r) (total x x)) (All-nil (λ y. R y x)))
   greatest x (y ∷ ys) = go (greatest y ys)
     where

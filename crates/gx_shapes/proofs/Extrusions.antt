@@ -85,49 +85,48 @@ beyond_is s a b q wa wq =
     gather : (n : ℤ) (a b q : V3) → (b.y -ℤ a.y) *ℤ (n *ℤ q.x -ℤ n *ℤ a.x) +ℤ (a.x -ℤ b.x) *ℤ (n *ℤ q.y -ℤ n *ℤ a.y) ≡ pos 0 -ℤ n *ℤ turn a b q
     gather = identity (number ∷ vector3 ∷ vector3 ∷ vector3 ∷ []) (λ n a b q. (b.y ⊖ a.y) ⊗ (n ⊗ q.x ⊖ n ⊗ a.x) ⊕ (a.x ⊖ b.x) ⊗ (n ⊗ q.y ⊖ n ⊗ a.y) ≣ none ⊖ n ⊗ turn_term a b q) tt
 
--- ---- the half-space of an edge with outward normal (u, v), by its levels in the two sections
-abbrev sloped : Section → Section → ℤ → ℤ → ℤ → ℤ → HalfSpace
-sloped s t u v l h = half_space ((t.z -ℤ s.z) *ℤ u) ((t.z -ℤ s.z) *ℤ v) (l -ℤ h) (t.z *ℤ l -ℤ s.z *ℤ h)
+-- ---- half-spaces at a point
+-- how far the point is beyond, times its w
+abbrev excess : HalfSpace → Vec4 → ℤ
+excess h p = normal_dot h p -ℤ h.e *ℤ p.w
 
--- and by a corner that it has in both
-abbrev through : Section → Section → ℤ → ℤ → V3 → V3 → HalfSpace
-through s t u v b d = sloped s t u v (u *ℤ b.x +ℤ v *ℤ b.y) (u *ℤ d.x +ℤ v *ℤ d.y)
+abbrev excess_term : TermHalfSpace → Term4 → Term
+excess_term h p = term.normal_dot h p ⊖ h.e ⊗ p.w
 
--- how far a point is beyond such an edge, times its w and the distance of the sections
-abbrev total_at : ℤ → ℤ → V3 → V3 → ℤ → ℤ → Vec4 → ℤ
-total_at u v b d z1 z2 p =
-    ((z2 -ℤ z1) *ℤ (u *ℤ p.x +ℤ v *ℤ p.y) -ℤ (z2 *ℤ p.w -ℤ p.z) *ℤ (u *ℤ b.x +ℤ v *ℤ b.y)) -ℤ (p.z -ℤ z1 *ℤ p.w) *ℤ (u *ℤ d.x +ℤ v *ℤ d.y)
-
-abbrev total_term : Term → Term → Term3 → Term3 → Term → Term → Term4 → Term
-total_term u v b d z1 z2 p =
-    ((z2 ⊖ z1) ⊗ (u ⊗ p.x ⊕ v ⊗ p.y) ⊖ (z2 ⊗ p.w ⊖ p.z) ⊗ (u ⊗ b.x ⊕ v ⊗ b.y)) ⊖ (p.z ⊖ z1 ⊗ p.w) ⊗ (u ⊗ d.x ⊕ v ⊗ d.y)
-
--- how far it is beyond `through`
-abbrev excess_at : ℤ → ℤ → V3 → V3 → ℤ → ℤ → Vec4 → ℤ
-excess_at u v b d z1 z2 p =
-    let l = u *ℤ b.x +ℤ v *ℤ b.y in
-    let h = u *ℤ d.x +ℤ v *ℤ d.y in
-    ((((z2 -ℤ z1) *ℤ u) *ℤ p.x +ℤ ((z2 -ℤ z1) *ℤ v) *ℤ p.y) +ℤ (l -ℤ h) *ℤ p.z) -ℤ (z2 *ℤ l -ℤ z1 *ℤ h) *ℤ p.w
-
-abbrev excess_term : Term → Term → Term3 → Term3 → Term → Term → Term4 → Term
-excess_term u v b d z1 z2 p =
-    let l = u ⊗ b.x ⊕ v ⊗ b.y in
-    let h = u ⊗ d.x ⊕ v ⊗ d.y in
-    ((((z2 ⊖ z1) ⊗ u) ⊗ p.x ⊕ ((z2 ⊖ z1) ⊗ v) ⊗ p.y) ⊕ (l ⊖ h) ⊗ p.z) ⊖ (z2 ⊗ l ⊖ z1 ⊗ h) ⊗ p.w
-
-weighted : (a b u0 v0 u1 v1 : ℤ) (c d : V3) (z1 z2 : ℤ) (p : Vec4) → a *ℤ excess_at u0 v0 c d z1 z2 p +ℤ b *ℤ excess_at u1 v1 c d z1 z2 p ≡ total_at (a *ℤ u0 +ℤ b *ℤ u1) (a *ℤ v0 +ℤ b *ℤ v1) c d z1 z2 p
-weighted = identity (number ∷ number ∷ number ∷ number ∷ number ∷ number ∷ vector3 ∷ vector3 ∷ number ∷ number ∷ vector4 ∷ []) (λ a b u0 v0 u1 v1 c d z1 z2 p. a ⊗ excess_term u0 v0 c d z1 z2 p ⊕ b ⊗ excess_term u1 v1 c d z1 z2 p ≣ total_term (a ⊗ u0 ⊕ b ⊗ u1) (a ⊗ v0 ⊕ b ⊗ v1) c d z1 z2 p) tt
+abbrev side_term : TermHalfSpace → Term3 → Term
+side_term h q = term.dot_of h.n q ⊖ h.e
 
 abbrev point_term : Term → Term → Term → Term3
 point_term x y z = record { x = x; y = y; z = z }
 
--- a half-space at a point, by its values at a corner in both sections
-scaled_up : (k : ℤ) (h : HalfSpace) (bx by_ dx dy z1 z2 : ℤ) (p : Vec4) → (k *ℤ (z2 -ℤ z1)) *ℤ (normal_dot h p -ℤ h.e *ℤ p.w) ≡ (total_at (k *ℤ h.n.x) (k *ℤ h.n.y) (point bx by_ z1) (point dx dy z2) z1 z2 p +ℤ (k *ℤ (z2 *ℤ p.w -ℤ p.z)) *ℤ side_of h (point bx by_ z1)) +ℤ (k *ℤ (p.z -ℤ z1 *ℤ p.w)) *ℤ side_of h (point dx dy z2)
-scaled_up = identity (number ∷ half_space_kind ∷ number ∷ number ∷ number ∷ number ∷ number ∷ number ∷ vector4 ∷ []) (λ k h bx by_ dx dy z1 z2 p. (k ⊗ (z2 ⊖ z1)) ⊗ (term.normal_dot h p ⊖ h.e ⊗ p.w) ≣ (total_term (k ⊗ h.n.x) (k ⊗ h.n.y) (point_term bx by_ z1) (point_term dx dy z2) z1 z2 p ⊕ (k ⊗ (z2 ⊗ p.w ⊖ p.z)) ⊗ side_term h (point_term bx by_ z1)) ⊕ (k ⊗ (p.z ⊖ z1 ⊗ p.w)) ⊗ side_term h (point_term dx dy z2)) tt
-  where
-    side_term : TermHalfSpace → Term3 → Term
-    side_term h q = term.dot_of h.n q ⊖ h.e
+-- that of an edge with outward normal (u, v), by its levels at the two heights
+abbrev sloped : ℤ → ℤ → ℤ → ℤ → ℤ → ℤ → HalfSpace
+sloped z1 z2 u v l h = half_space ((z2 -ℤ z1) *ℤ u) ((z2 -ℤ z1) *ℤ v) (l -ℤ h) (z2 *ℤ l -ℤ z1 *ℤ h)
 
+abbrev sloped_term : Term → Term → Term → Term → Term → Term → TermHalfSpace
+sloped_term z1 z2 u v l h = record { n = point_term ((z2 ⊖ z1) ⊗ u) ((z2 ⊖ z1) ⊗ v) (l ⊖ h); e = z2 ⊗ l ⊖ z1 ⊗ h }
+
+side_of-sloped_first : (z1 z2 u v l h x y : ℤ) → side_of (sloped z1 z2 u v l h) (point x y z1) ≡ (z2 -ℤ z1) *ℤ ((u *ℤ x +ℤ v *ℤ y) -ℤ l)
+side_of-sloped_first = identity (number ∷ number ∷ number ∷ number ∷ number ∷ number ∷ number ∷ number ∷ []) (λ z1 z2 u v l h x y. side_term (sloped_term z1 z2 u v l h) (point_term x y z1) ≣ (z2 ⊖ z1) ⊗ ((u ⊗ x ⊕ v ⊗ y) ⊖ l)) tt
+
+side_of-sloped_second : (z1 z2 u v l h x y : ℤ) → side_of (sloped z1 z2 u v l h) (point x y z2) ≡ (z2 -ℤ z1) *ℤ ((u *ℤ x +ℤ v *ℤ y) -ℤ h)
+side_of-sloped_second = identity (number ∷ number ∷ number ∷ number ∷ number ∷ number ∷ number ∷ number ∷ []) (λ z1 z2 u v l h x y. side_term (sloped_term z1 z2 u v l h) (point_term x y z2) ≣ (z2 ⊖ z1) ⊗ ((u ⊗ x ⊕ v ⊗ y) ⊖ h)) tt
+
+-- and by its points at the two heights
+abbrev through : ℤ → ℤ → ℤ → ℤ → V3 → V3 → HalfSpace
+through z1 z2 u v b d = sloped z1 z2 u v (u *ℤ b.x +ℤ v *ℤ b.y) (u *ℤ d.x +ℤ v *ℤ d.y)
+
+abbrev through_term : Term → Term → Term → Term → Term3 → Term3 → TermHalfSpace
+through_term z1 z2 u v b d = sloped_term z1 z2 u v (u ⊗ b.x ⊕ v ⊗ b.y) (u ⊗ d.x ⊕ v ⊗ d.y)
+
+weighted : (z1 z2 i j u0 v0 u1 v1 : ℤ) (b d : V3) (p : Vec4) → i *ℤ excess (through z1 z2 u0 v0 b d) p +ℤ j *ℤ excess (through z1 z2 u1 v1 b d) p ≡ excess (through z1 z2 (i *ℤ u0 +ℤ j *ℤ u1) (i *ℤ v0 +ℤ j *ℤ v1) b d) p
+weighted = identity (number ∷ number ∷ number ∷ number ∷ number ∷ number ∷ number ∷ number ∷ vector3 ∷ vector3 ∷ vector4 ∷ []) (λ z1 z2 i j u0 v0 u1 v1 b d p. i ⊗ excess_term (through_term z1 z2 u0 v0 b d) p ⊕ j ⊗ excess_term (through_term z1 z2 u1 v1 b d) p ≣ excess_term (through_term z1 z2 (i ⊗ u0 ⊕ j ⊗ u1) (i ⊗ v0 ⊕ j ⊗ v1) b d) p) tt
+
+-- any half-space, by that through points at the two heights and by its own sides there
+by_sides : (z1 z2 k : ℤ) (h : HalfSpace) (bx by_ dx dy : ℤ) (p : Vec4) → (k *ℤ (z2 -ℤ z1)) *ℤ excess h p ≡ (excess (through z1 z2 (k *ℤ h.n.x) (k *ℤ h.n.y) (point bx by_ z1) (point dx dy z2)) p +ℤ (k *ℤ (z2 *ℤ p.w -ℤ p.z)) *ℤ side_of h (point bx by_ z1)) +ℤ (k *ℤ (p.z -ℤ z1 *ℤ p.w)) *ℤ side_of h (point dx dy z2)
+by_sides = identity (number ∷ number ∷ number ∷ half_space_kind ∷ number ∷ number ∷ number ∷ number ∷ vector4 ∷ []) (λ z1 z2 k h bx by_ dx dy p. (k ⊗ (z2 ⊖ z1)) ⊗ excess_term h p ≣ (excess_term (through_term z1 z2 (k ⊗ h.n.x) (k ⊗ h.n.y) (point_term bx by_ z1) (point_term dx dy z2)) p ⊕ (k ⊗ (z2 ⊗ p.w ⊖ p.z)) ⊗ side_term h (point_term bx by_ z1)) ⊕ (k ⊗ (p.z ⊖ z1 ⊗ p.w)) ⊗ side_term h (point_term dx dy z2)) tt
+
+-- ---- the solid
 abbrev top : Section → HalfSpace
 top t = half_space (pos 0) (pos 0) (pos 1) t.z
 
@@ -185,17 +184,11 @@ module _ (s t : Section) (corners : List V3) (edges : List (V3 × V3)) (tall : s
       bound (side s t e)
       (not_is_zero (side s t e).n (point (e.1.y -ℤ e.0.y) (e.0.x -ℤ e.1.x) (pos 0))
       (λ zero. omega (arith, ints, zero, length z (level s e -ℤ level t e) e.0 e.1, mul_pos z (along e.0 e.1 e.0 e.1) (omega (arith, ints, tall)) (All-contains (λ e. pos 0 <ℤ along e.0 e.1 e.0 e.1) edges e is.long in_e))))
-      (λ k d lt. omega (arith, ints, mul_nonneg_nonpos z (beyond s e (get_or corners k d)) (omega (arith, ints, tall)) (inward s low e in_e k d lt), in_first (e.1.y -ℤ e.0.y) (e.0.x -ℤ e.1.x) s.z t.z (level s e) (level t e) (corner s (get_or corners k d)).x (corner s (get_or corners k d)).y))
-      (λ k d lt. omega (arith, ints, mul_nonneg_nonpos z (beyond t e (get_or corners k d)) (omega (arith, ints, tall)) (inward t high e in_e k d lt), in_second (e.1.y -ℤ e.0.y) (e.0.x -ℤ e.1.x) s.z t.z (level s e) (level t e) (corner t (get_or corners k d)).x (corner t (get_or corners k d)).y))
+      (λ k d lt. omega (arith, ints, mul_nonneg_nonpos z (beyond s e (get_or corners k d)) (omega (arith, ints, tall)) (inward s low e in_e k d lt), side_of-sloped_first s.z t.z (e.1.y -ℤ e.0.y) (e.0.x -ℤ e.1.x) (level s e) (level t e) (corner s (get_or corners k d)).x (corner s (get_or corners k d)).y))
+      (λ k d lt. omega (arith, ints, mul_nonneg_nonpos z (beyond t e (get_or corners k d)) (omega (arith, ints, tall)) (inward t high e in_e k d lt), side_of-sloped_second s.z t.z (e.1.y -ℤ e.0.y) (e.0.x -ℤ e.1.x) (level s e) (level t e) (corner t (get_or corners k d)).x (corner t (get_or corners k d)).y))
     where
       length : (z m : ℤ) (a b : V3) → dot_of (point (z *ℤ (b.y -ℤ a.y)) (z *ℤ (a.x -ℤ b.x)) m) (point (b.y -ℤ a.y) (a.x -ℤ b.x) (pos 0)) ≡ z *ℤ along a b a b
       length = identity (number ∷ number ∷ vector3 ∷ vector3 ∷ []) (λ z m a b. term.dot_of (point_term (z ⊗ (b.y ⊖ a.y)) (z ⊗ (a.x ⊖ b.x)) m) (point_term (b.y ⊖ a.y) (a.x ⊖ b.x) none) ≣ z ⊗ along_term a b a b) tt
-
-      in_first : (a b z1 z2 l h x y : ℤ) → (((z2 -ℤ z1) *ℤ a) *ℤ x +ℤ ((z2 -ℤ z1) *ℤ b) *ℤ y) +ℤ (l -ℤ h) *ℤ z1 -ℤ (z2 *ℤ l -ℤ z1 *ℤ h) ≡ (z2 -ℤ z1) *ℤ ((a *ℤ x +ℤ b *ℤ y) -ℤ l)
-      in_first = identity (number ∷ number ∷ number ∷ number ∷ number ∷ number ∷ number ∷ number ∷ []) (λ a b z1 z2 l h x y. (((z2 ⊖ z1) ⊗ a) ⊗ x ⊕ ((z2 ⊖ z1) ⊗ b) ⊗ y) ⊕ (l ⊖ h) ⊗ z1 ⊖ (z2 ⊗ l ⊖ z1 ⊗ h) ≣ (z2 ⊖ z1) ⊗ ((a ⊗ x ⊕ b ⊗ y) ⊖ l)) tt
-
-      in_second : (a b z1 z2 l h x y : ℤ) → (((z2 -ℤ z1) *ℤ a) *ℤ x +ℤ ((z2 -ℤ z1) *ℤ b) *ℤ y) +ℤ (l -ℤ h) *ℤ z2 -ℤ (z2 *ℤ l -ℤ z1 *ℤ h) ≡ (z2 -ℤ z1) *ℤ ((a *ℤ x +ℤ b *ℤ y) -ℤ h)
-      in_second = identity (number ∷ number ∷ number ∷ number ∷ number ∷ number ∷ number ∷ number ∷ []) (λ a b z1 z2 l h x y. (((z2 ⊖ z1) ⊗ a) ⊗ x ⊕ ((z2 ⊖ z1) ⊗ b) ⊗ y) ⊕ (l ⊖ h) ⊗ z2 ⊖ (z2 ⊗ l ⊖ z1 ⊗ h) ≣ (z2 ⊖ z1) ⊗ ((a ⊗ x ⊕ b ⊗ y) ⊖ h)) tt
 
   bounds : All (IsBound (extrusion_vertices s t corners)) (solid_of s t edges)
   bounds =
@@ -205,13 +198,13 @@ module _ (s t : Section) (corners : List V3) (edges : List (V3 × V3)) (tall : s
 
   -- ---- what bounds the vertices bounds the points
   -- the inequality of an edge, by its levels at a point of the edge
-  side_at : (p : Vec4) → All (λ h. IsAtMost h p) (solid_of s t edges) → (e : V3 × V3) → Contains edges e → (x : V3) → beyond s e x ≡ pos 0 → beyond t e x ≡ pos 0 → IsAtMost (through s t (e.1.y -ℤ e.0.y) (e.0.x -ℤ e.1.x) (corner s x) (corner t x)) p
+  side_at : (p : Vec4) → All (λ h. IsAtMost h p) (solid_of s t edges) → (e : V3 × V3) → Contains edges e → (x : V3) → beyond s e x ≡ pos 0 → beyond t e x ≡ pos 0 → IsAtMost (through s.z t.z (e.1.y -ℤ e.0.y) (e.0.x -ℤ e.1.x) (corner s x) (corner t x)) p
   side_at p inside e in_e x es et =
       let u = e.1.y -ℤ e.0.y in
       let v = e.0.x -ℤ e.1.x in
       let sides = All-from_map (λ h. IsAtMost h p) (side s t) edges (All-tail (λ h. IsAtMost h p) (bottom s) (map (side s t) edges) (All-tail (λ h. IsAtMost h p) (top t) (bottom s ∷ map (side s t) edges) inside)) in
-      subst (λ (l : ℤ). IsAtMost (sloped s t u v l (u *ℤ (corner t x).x +ℤ v *ℤ (corner t x).y)) p) (same (u *ℤ (corner s x).x +ℤ v *ℤ (corner s x).y) (level s e) es)
-      (subst (λ (l : ℤ). IsAtMost (sloped s t u v (level s e) l) p) (same (u *ℤ (corner t x).x +ℤ v *ℤ (corner t x).y) (level t e) et)
+      subst (λ (l : ℤ). IsAtMost (sloped s.z t.z u v l (u *ℤ (corner t x).x +ℤ v *ℤ (corner t x).y)) p) (same (u *ℤ (corner s x).x +ℤ v *ℤ (corner s x).y) (level s e) es)
+      (subst (λ (l : ℤ). IsAtMost (sloped s.z t.z u v (level s e) l) p) (same (u *ℤ (corner t x).x +ℤ v *ℤ (corner t x).y) (level t e) et)
       (All-contains (λ e. IsAtMost (side s t e) p) edges e sides in_e))
     where
       same : (a b : ℤ) → a -ℤ b ≡ pos 0 → b ≡ a
@@ -233,17 +226,17 @@ module _ (s t : Section) (corners : List V3) (edges : List (V3 × V3)) (tall : s
       let at_d = All-contains (λ q. side_of h (corner t q) ≤ℤ pos 0) corners x (All-from_map (λ q. side_of h q ≤ℤ pos 0) (corner t) corners parts.1) in_x in
       let first = side_at p all (c.before, x) c.enters x (level_end s low (c.before, x) c.enters) (level_end t high (c.before, x) c.enters) in
       let second = side_at p all (x, c.after) c.leaves x (nothing (level s (x, c.after))) (nothing (level t (x, c.after))) in
-      let gradient : total_at (c.a *ℤ u0 +ℤ c.b *ℤ u1) (c.a *ℤ v0 +ℤ c.b *ℤ v1) b d s.z t.z p ≡ total_at (c.k *ℤ h.n.x) (c.k *ℤ h.n.y) b d s.z t.z p = λ i. total_at (sym c.x_is i) (sym c.y_is i) b d s.z t.z p in
+      let gradient : excess (through s.z t.z (c.a *ℤ u0 +ℤ c.b *ℤ u1) (c.a *ℤ v0 +ℤ c.b *ℤ v1) b d) p ≡ excess (through s.z t.z (c.k *ℤ h.n.x) (c.k *ℤ h.n.y) b d) p = λ i. excess (through s.z t.z (sym c.x_is i) (sym c.y_is i) b d) p in
       at_most (normal_dot h p) (h.e *ℤ p.w)
-      (le_of_mul-le-left (c.k *ℤ z) (normal_dot h p -ℤ h.e *ℤ p.w) (pos 0) (mul_pos c.k z c.positive (omega (arith, ints, tall)))
+      (le_of_mul-le-left (c.k *ℤ z) (excess h p) (pos 0) (mul_pos c.k z c.positive (omega (arith, ints, tall)))
       (omega (
         arith,
         ints,
-        weighted c.a c.b u0 v0 u1 v1 b d s.z t.z p,
+        weighted s.z t.z c.a c.b u0 v0 u1 v1 b d p,
         gradient,
-        scaled_up c.k h b.x b.y d.x d.y s.z t.z p,
-        mul_nonneg_nonpos c.a (normal_dot (through s t u0 v0 b d) p -ℤ (through s t u0 v0 b d).e *ℤ p.w) c.first (omega (arith, ints, first)),
-        mul_nonneg_nonpos c.b (normal_dot (through s t u1 v1 b d) p -ℤ (through s t u1 v1 b d).e *ℤ p.w) c.second (omega (arith, ints, second)),
+        by_sides s.z t.z c.k h b.x b.y d.x d.y p,
+        mul_nonneg_nonpos c.a (excess (through s.z t.z u0 v0 b d) p) c.first (omega (arith, ints, first)),
+        mul_nonneg_nonpos c.b (excess (through s.z t.z u1 v1 b d) p) c.second (omega (arith, ints, second)),
         mul_nonneg_nonpos (c.k *ℤ (t.z *ℤ p.w -ℤ p.z)) (side_of h b) (mul_nonneg c.k (t.z *ℤ p.w -ℤ p.z) (omega (arith, ints, c.positive)) (omega (arith, ints, all 0 o (omega arith)))) at_b,
         mul_nonneg_nonpos (c.k *ℤ (p.z -ℤ s.z *ℤ p.w)) (side_of h d) (mul_nonneg c.k (p.z -ℤ s.z *ℤ p.w) (omega (arith, ints, c.positive)) (omega (arith, ints, all 1 o (omega arith), neg-mul s.z p.w))) at_d,
       )))
