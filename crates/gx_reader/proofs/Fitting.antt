@@ -20,9 +20,3 @@ vector_within givens i fits h = record {
 
 pub moves : (v : V3) → is_zero v ≡ false → (o : V3) → HasDirection (record { o = o; d = v })
 moves v e o = λ x y z. true≢false (sym (rw (x, y, z) refl) ∙ e)
-
--- ---- a solid's values
-pub values_within : (n : ℕ) (givens : List Given) → All Fits givens → All (λ v. unsigned_abs v ≤ unsigned_abs M) (take n (values_in givens))
-values_within n givens fits =
-    let small : ℤ → Type 0 = λ v. unsigned_abs v ≤ unsigned_abs M in
-    All-take small n (values_in givens) (All-map small number_in (drop 2 givens) (All-drop Fits 2 givens fits))

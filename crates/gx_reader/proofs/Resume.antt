@@ -17,7 +17,8 @@ use Rattle.gx_reader.specs.declared.fault.TextFault.{TextFault}
 use Rattle.gx_reader.specs.declared.fault.ReadError.{ReadError}
 use Rattle.gx_reader.specs.declared.fault.ReadError.TheVariants.{Text, NoMemory as NoReadMemory}
 use Rattle.gx_reader.specs.Form.{Declarations}
-use Rattle.gx_reader.specs.Reading.{line_fault, with_line, and_then, read_lines, IsCause}
+use Rattle.gx_form.specs.First.{◌>>=◌}
+use Rattle.gx_reader.specs.Reading.{line_fault, with_line, read_lines, IsCause}
 use Rattle.gx_reader.specs.Resumed.{resumed, IsOpen, error_of}
 
 ok_same : {A E : Type 0} (a b : A) → ◌≡◌ {A = Result A E} (Ok a) (Ok b) → a ≡ b
@@ -37,14 +38,14 @@ through_le (b ∷ text) = elim (b == 10) as (λ t. length (cond t (b ∷ []) (b 
 ]
 
 -- nothing more is to come
-pub no_more : (r : Result Declarations TextFault) → and_then r (λ d. Ok d) ≡ r
+pub no_more : (r : Result Declarations TextFault) → (r >>= (λ d. Ok d)) ≡ r
 no_more (Err fault) = refl
 no_more (Ok d) = refl
 
 module _ (grid : Fraction) (d : Declarations) where
   -- what a line that was answered makes of the text: it is declared, and then what is left
   pub record Goes (s : ScannerState) (text : List ℕ) (o : Option TextLine) (new : ScannerState) (rest : List ℕ) : Type 0 where
-    pub same : resumed grid d s text ≡ and_then (with_line grid d (Ok o)) (λ next. resumed grid next new rest)
+    pub same : resumed grid d s text ≡ (with_line grid d (Ok o) >>= (λ next. resumed grid next new rest))
     pub kept : IsOpen (length rest) new
     pub shorter : length rest < length text
 
@@ -56,7 +57,7 @@ module _ (grid : Fraction) (d : Declarations) where
   module _ (number : ℕ) (line : List ℕ) (text : List ℕ) (kept : IsOpen (length text) (Scanning number line)) (some : 0 < length text) where
     -- a line that is ended by a LF
     module _ (part rest : List ℕ) (clear : HasNoLf part) (whole : text ≡ part ++ 10 ∷ rest) where
-      lines_are : resumed grid d (Scanning number line) text ≡ and_then (with_line grid d (ended number (line ++ part))) (λ next. read_lines grid next (number + 1) (cut rest))
+      lines_are : resumed grid d (Scanning number line) text ≡ (with_line grid d (ended number (line ++ part)) >>= (λ next. read_lines grid next (number + 1) (cut rest)))
       lines_are =
           ap (λ bytes. read_lines grid d number (cut bytes)) (ap (λ bytes. line ++ bytes) whole ∙ sym (append_assoc line part (10 ∷ rest)))
           ∙ ap (read_lines grid d number) (slice_split_at is_lf (line ++ part) 10 rest (All-append (λ b. (b == 10) ≡ false) line part kept.0 clear) refl)
@@ -70,8 +71,8 @@ module _ (grid : Fraction) (d : Declarations) where
       ended_by : (r : Result (Option TextLine) LineFault) → ended number (line ++ part) ≡ r → Steps (Scanning number line) text (ending number r) rest
       ended_by (Ok o) e = record {
         goes = λ other is. record {
-          same = lines_are ∙ ap (λ r. and_then (with_line grid d r) (λ next. read_lines grid next (number + 1) (cut rest))) (e ∙ is)
-              ∙ ap (λ n. and_then (with_line grid d (Ok other)) (λ next. read_lines grid next n (cut rest))) (sym count);
+          same = lines_are ∙ ap (λ r. (with_line grid d r >>= (λ next. read_lines grid next (number + 1) (cut rest)))) (e ∙ is)
+              ∙ ap (λ n. (with_line grid d (Ok other) >>= (λ next. read_lines grid next n (cut rest)))) (sym count);
           kept = (λ k d h. absurd (omega arith), omega (arith, kept.1, count, size));
           shorter = omega (arith, size);
         };
@@ -79,7 +80,7 @@ module _ (grid : Fraction) (d : Declarations) where
       }
       ended_by (Err fault) e = record {
         goes = λ o is. absurd (ok_err o fault (sym is));
-        stops = λ other is. lines_are ∙ ap (λ r. and_then (with_line grid d r) (λ next. read_lines grid next (number + 1) (cut rest))) (e ∙ is);
+        stops = λ other is. lines_are ∙ ap (λ r. (with_line grid d r >>= (λ next. read_lines grid next (number + 1) (cut rest)))) (e ∙ is);
       }
 
     -- the bytes before the text's end
@@ -156,8 +157,8 @@ cause_of (NotAscii line column) read h = h (λ e. cc)
 cause_of NoMemory read h = tt
 
 -- a fault of what comes first is the whole's
-pub cause_then : {A B : Type 0} (e : ReadError) (first : Result A TextFault) (next : A → Result B TextFault) → IsCause first e → IsCause (and_then first next) e
-cause_then (Text fault) first next h = ap (λ r. and_then r next) h
+pub cause_then : {A B : Type 0} (e : ReadError) (first : Result A TextFault) (next : A → Result B TextFault) → IsCause first e → IsCause ((first >>= next)) e
+cause_then (Text fault) first next h = ap (λ r. (r >>= next)) h
 cause_then NoReadMemory first next h = tt
 
 pub cause_same : {A : Type 0} (e : ReadError) (a b : Result A TextFault) → a ≡ b → IsCause b e → IsCause a e

@@ -1,6 +1,7 @@
 ghost use Rattle.std.specs.Prelude.{◌≡◌, ◌<◌, [], length, IfOk, IfErr, OnOk, Ok};
 ghost use Rattle.gx_reader.specs.Form.{nothing_declared};
-ghost use Rattle.gx_reader.specs.Reading.{reading, with_line, and_then, input_of, IsCause};
+ghost use Rattle.gx_form.specs.First.{◌>>=◌};
+ghost use Rattle.gx_reader.specs.Reading.{reading, with_line, input_of, IsCause};
 ghost use Rattle.gx_reader.specs.Resumed.{IsOpen};
 ghost use Rattle.gx_text.specs.ScannerState.ScannerState.{Scanning};
 ghost use Rattle.gx_reader.specs.Left.{left_by};
@@ -74,8 +75,8 @@ impl Reading {
 
     fn finish(self) -> Result<Input, ReadError>
         requires { IsOpen 0 self.lines }
-        ensures ok { IfOk result (λ input. and_then (left_by self []) (λ d. input_of d.world d.rays) ≡ Ok input) }
-        ensures err { IfErr result (IsCause (and_then (left_by self []) (λ d. input_of d.world d.rays))) }
+        ensures ok { IfOk result (λ input. (left_by self [] >>= (λ d. input_of d.world d.rays)) ≡ Ok input) }
+        ensures err { IfErr result (IsCause ((left_by self [] >>= (λ d. input_of d.world d.rays)))) }
     {
         let Reading {
             lines,

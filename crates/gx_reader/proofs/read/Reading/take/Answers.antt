@@ -2,7 +2,7 @@ use Rattle.std.proofs.Common.{◌≡◌, ◌-◌, length, take, drop, sym, ap, �
 use Rattle.std.specs.Io.BufRead.{take_through}
 use Rattle.std.proofs.lemmas.List.{take_rest}
 use Rattle.std.proofs.lemmas.Result.{err_from_is_err_and}
-use Rattle.gx_reader.specs.Reading.{and_then}
+use Rattle.gx_form.specs.First.{◌>>=◌}
 use Rattle.gx_reader.specs.Resumed.{resumed}
 use Rattle.gx_reader.proofs.Resume.{take_goes, take_stops, through_le, cause_of, cause_then, cause_same}
 use Rattle.gx_reader.proofs.read.Reading.take.Goals as goal
@@ -35,7 +35,7 @@ returns-clause-ok c =
     let goes = take_goes s.declared.grid s.declared.so_far s.lines text c.in_ok-count.line c.take.new.self c.requires.kept c.requires.some c.in_ok-count.ensures.answer in
     let rest : take (length text - count) (drop count text) ≡ drop (length (take_through 10 text)) text = take_rest text count ∙ ap (λ n. drop n text) c.in_ok-count.ensures.count in
     rw (rest, c.in_ok-declare.ensures.grid)
-    (sym (goes.same ∙ ap (λ r. and_then r (λ next. resumed s.declared.grid next c.take.new.self (drop (length (take_through 10 text)) text))) c.in_ok-declare.ensures.ok))
+    (sym (goes.same ∙ ap (λ r. (r >>= (λ next. resumed s.declared.grid next c.take.new.self (drop (length (take_through 10 text)) text)))) c.in_ok-declare.ensures.ok))
 
 pub returns-clause-kept : goal.returns-clause-kept
 returns-clause-kept c =
