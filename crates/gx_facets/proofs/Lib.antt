@@ -1,1 +1,3 @@
 mod FacetFacts
+mod Joined
+mod Numbers

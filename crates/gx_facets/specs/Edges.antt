@@ -21,7 +21,7 @@ place_of e = 32 * e.0 + e.1
 
 -- how often each edge stands, counted up to 255
 abbrev pub AreCounts : List (ℕ × ℕ) → List ℕ → Type 0
-AreCounts edges counts = (i j : ℕ) → i < 32 → j < 32 → slice_index counts (place_of (i, j)) ≡ min (length (filter (λ e. e.0 == i && e.1 == j) edges)) 255
+AreCounts edges counts = (i j : ℕ) → i < 32 → j < 32 → slice_index counts (place_of (i, j)) ≡ min (length (filter (λ e. i == e.0 && j == e.1) edges)) 255
 
 -- the edge joins two points, stands once, and its reverse stands
 abbrev pub is_joined_by : List ℕ → ℕ × ℕ → Bool

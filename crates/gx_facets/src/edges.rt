@@ -1,5 +1,6 @@
 ghost use Rattle.std.specs.Prelude.{◌≡◌, ◌≤◌, ◌<◌, ◌++◌, [], ◌∷◌, ℕ, List, length, slice_index, All, Contains};
-ghost use Rattle.std.specs.List.{list_all, flat_map};
+ghost use Rattle.std.specs.List.{list_all, flat_map, position};
+ghost use Rattle.gx_num.specs.Vector.{is_same};
 ghost use Rattle.gx_shapes.specs.Tessellation.{facet_edges, is_joined as is_joined_among};
 ghost use Rattle.gx_facets.specs.Facets.{EachCorner};
 ghost use Rattle.gx_facets.specs.Edges.{number_of, numbered_edges, place_of, AreCounts, is_joined_by};
@@ -13,8 +14,7 @@ pub fn are_joined(facets: &[Facet], vertices: &[V3]) -> bool
     requires few { length vertices.now ≤ 32 }
     ensures { result ≡ list_all (is_joined_among (facet_edges facets.now)) (facet_edges facets.now) }
 {
-    let counts = EdgeCounts::of(facets, vertices);
-    facets.iter().all(|facet| counts.are_joined(facet, vertices))
+    EdgeCounts::of(facets, vertices).join_all(facets, vertices)
 }
 
 // How often each edge stands, by the numbers of its ends, counted up to 255.
@@ -65,7 +65,16 @@ impl EdgeCounts {
         self.counts[place] = self.counts[place].saturating_add(1);
     }
 
-    fn are_joined(&self, facet: &Facet, vertices: &[V3]) -> bool
+    fn join_all(&self, facets: &[Facet], vertices: &[V3]) -> bool
+        requires corners { All (EachCorner (Contains vertices.now)) facets.now }
+        requires few { length vertices.now ≤ 32 }
+        ensures { result ≡ list_all (λ f. list_all (is_joined_by self.now.counts) (numbered_edges vertices.now f)) facets.now }
+    {
+        facets.iter().all(|facet| self.join(facet, vertices))
+    }
+
+    // Each edge of the facet is joined.
+    fn join(&self, facet: &Facet, vertices: &[V3]) -> bool
         requires corners { EachCorner (Contains vertices.now) facet.now }
         requires few { length vertices.now ≤ 32 }
         ensures { result ≡ list_all (is_joined_by self.now.counts) (numbered_edges vertices.now facet.now) }
@@ -110,5 +119,11 @@ fn number(p: V3, vertices: &[V3]) -> usize
     ensures value { result ≡ number_of vertices.now p }
     ensures within { result < 32 }
 {
-    vertices.iter().position(|&vertex| p == vertex).unwrap()
+    first_place(p, vertices).unwrap()
+}
+
+fn first_place(p: V3, points: &[V3]) -> Option<usize>
+    ensures { result ≡ position (is_same p) points.now }
+{
+    points.iter().position(|&point| p == point)
 }
