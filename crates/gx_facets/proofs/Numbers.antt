@@ -1,15 +1,14 @@
 -- Points by their numbers among others.
-use Rattle.std.proofs.Common.{get_or, ◌≡◌, ◌<◌, ◌+◌, ℕ, zero, suc, Bool, true, false, cond, not, nat_lt, Some, None, List, [], ◌∷◌, ◌++◌, map, flat_map, take, length, Contains, ◌⊎◌, inl, inr, refl, sym, ap, subst, ◌∙◌, arith, true≢false}
-use Rattle.std.specs.List.{position, position_or_len}
+use Rattle.std.proofs.Common.{get_or, ◌≡◌, ◌<◌, ◌+◌, ℕ, suc, Bool, true, false, cond, not, nat_lt, Some, None, List, [], ◌∷◌, ◌++◌, map, flat_map, take, length, Contains, ◌⊎◌, inl, inr, refl, sym, ap, subst, ◌∙◌, arith, true≢false}
+use Rattle.std.specs.List.{position}
 use Rattle.std.proofs.lemmas.Bool.Decides.{nat_tests}
 use Rattle.std.proofs.lemmas.List.{append_assoc, append-nil, take_more}
 use Rattle.std.proofs.lemmas.Grind.{flat_map-append}
-use Rattle.std.proofs.lemmas.List.Folds.{list_any_at}
 use Rattle.std.proofs.lemmas.List.Sums.{passes_at_first}
 use Rattle.gx_num.specs.declared.vector.V3.{V3}
 use Rattle.gx_num.specs.Vector.{is_same}
 use Rattle.gx_algebra.proofs.Lists.{Contains-cases}
-use Rattle.gx_convex.proofs.Distinct.{Decides-is_same, by_bool}
+use Rattle.gx_convex.proofs.Distinct.{Decides-is_same}
 use Rattle.gx_polygon.specs.Around.{around}
 use Rattle.gx_shapes.specs.declared.facet.Facet.{Facet}
 use Rattle.gx_shapes.specs.Tessellation.{fourth}
