@@ -1,0 +1,4 @@
+mod Corners
+mod FacetFacts
+mod Joined
+mod Numbers
