@@ -1,11 +1,11 @@
 //! Solids: reading the values of each kind, the solid that they make, and the first fault of values that make none.
 #![tactic(auto)]
 
+pub mod laws;
 mod make;
 mod numbers;
 mod read;
 mod sections;
-mod stand_in;
 mod values;
 mod vertices;
 mod whole;

@@ -9,9 +9,10 @@ ghost use Rattle.gx_shapes.specs.Solid.{first_true, vertices_of};
 ghost use Rattle.gx_shapes.specs.Accepted.{IsFigure};
 ghost use Rattle.gx_solids.specs.Whole as spec;
 
-use crate::stand_in::{facets_fault, is_convex, is_straight};
+use gx_facets::facets_fault;
 use gx_hull::Hull;
 use gx_num::V3;
+use gx_polygon::{is_convex, is_straight};
 use gx_shapes::Figure;
 use gx_table::FaultName;
 
