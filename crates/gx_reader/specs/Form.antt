@@ -21,7 +21,7 @@ use Rattle.gx_reader.specs.declared.judge.Given.{Given}
 use Rattle.gx_reader.specs.declared.judge.Given.TheVariants.{Nothing, Number, Worthy, OfKind}
 use Rattle.gx_shapes.specs.declared.figure.Figure.{Figure}
 use Rattle.gx_shapes.specs.declared.fault.SolidFault.{SolidFault}
-use Rattle.gx_shapes.specs.declared.fault.SolidFault.TheVariants.{At, Whole, NoMemory}
+use Rattle.gx_shapes.specs.declared.fault.SolidFault.TheVariants.{Whole}
 use Rattle.gx_shapes.specs.Accepted.{accepted}
 use Rattle.gx_reader.specs.declared.kind.WorldKind.{WorldKind}
 use Rattle.gx_reader.specs.Kind.{solid_kind, value_count}

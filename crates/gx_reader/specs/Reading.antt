@@ -42,11 +42,14 @@ abbrev pub input_of : Option World → List Ray → Result Input TextFault
 input_of None rays = Err (fault_at 0 0 NotBuilt)
 input_of (Some world) rays = Ok (record { tree = world; rays = rays })
 
+abbrev pub input_from : Result Declarations TextFault → Result Input TextFault
+input_from read = read >>= (λ d. input_of d.world d.rays)
+
 -- the input that a text declares, or its first fault; lengths are in steps of the grid
 abbrev pub reading : Fraction → List ℕ → Result Input TextFault
 reading grid text =
     if nat_lt MAX_TEXT (length text) then Err (fault_at 0 0 LongText)
-    else read_lines grid nothing_declared 1 (cut text) >>= (λ d. input_of d.world d.rays)
+    else input_from (read_lines grid nothing_declared 1 (cut text))
 
 -- the cause of a reader's error: the text's fault; want of memory has none
 abbrev pub IsCause : {A : Type 0} → Result A TextFault → ReadError → Type 0

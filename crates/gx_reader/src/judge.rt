@@ -9,8 +9,8 @@ ghost use Rattle.gx_reader.specs.Kind.{solid_kind};
 ghost use Rattle.gx_reader.specs.Given.{Fits, IsCauseAt};
 
 use crate::fault::{Refusal, WordFault};
-use gx_expr::{ExprFault, Grid, Params, StepFault, Value, eval, to_steps};
 use crate::kind::WorldKind;
+use gx_expr::{ExprFault, Grid, Params, StepFault, Value, eval, to_steps};
 use gx_solids::word_fault;
 use gx_table::FaultName;
 use gx_text::{Line, is_name};
@@ -150,8 +150,10 @@ pub fn values(alloc: Global, givens: &[Given]) -> Result<Vec<i64>, AllocError>
 }
 
 fn unless_refused(kind: WorldKind, values: &[i64], number: i64) -> Result<Given, FaultName>
-    requires { length values.now ≤ 4096 }
-    ensures { result ≡ unless_fault number (first_fault (solid_kind kind) values.now) }
+    requires few { length values.now ≤ 4096 }
+    requires within { unsigned_abs number ≤ unsigned_abs M }
+    ensures value { result ≡ unless_fault number (first_fault (solid_kind kind) values.now) }
+    ensures fits { IfOk result Fits }
 {
     match word_fault(kind.solid_kind(), values) {
         Some((_, name)) => Err(name),

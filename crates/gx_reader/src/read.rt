@@ -1,7 +1,6 @@
 ghost use Rattle.std.specs.Prelude.{◌≡◌, ◌<◌, [], length, IfOk, IfErr, OnOk, Ok};
 ghost use Rattle.gx_reader.specs.Form.{nothing_declared};
-ghost use Rattle.gx_form.specs.First.{◌>>=◌};
-ghost use Rattle.gx_reader.specs.Reading.{reading, with_line, input_of, IsCause};
+ghost use Rattle.gx_reader.specs.Reading.{reading, with_line, input_from, IsCause};
 ghost use Rattle.gx_reader.specs.Resumed.{IsOpen};
 ghost use Rattle.gx_text.specs.ScannerState.ScannerState.{Scanning};
 ghost use Rattle.gx_reader.specs.Left.{left_by};
@@ -75,8 +74,8 @@ impl Reading {
 
     fn finish(self) -> Result<Input, ReadError>
         requires { IsOpen 0 self.lines }
-        ensures ok { IfOk result (λ input. (left_by self [] >>= (λ d. input_of d.world d.rays)) ≡ Ok input) }
-        ensures err { IfErr result (IsCause ((left_by self [] >>= (λ d. input_of d.world d.rays)))) }
+        ensures ok { IfOk result (λ input. input_from (left_by self []) ≡ Ok input) }
+        ensures err { IfErr result (IsCause (input_from (left_by self []))) }
     {
         let Reading {
             lines,

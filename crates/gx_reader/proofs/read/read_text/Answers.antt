@@ -4,8 +4,7 @@ use Rattle.std.proofs.lemmas.Result.{err_from_is_err_and, IfOk-weaker}
 use Rattle.std.proofs.lemmas.Bool.Decides.{nat_tests}
 use Rattle.gx_text.proofs.StepLemmas.{no_bytes}
 use Rattle.gx_reader.specs.declared.read.TheConstants.{MAX_TEXT}
-use Rattle.gx_form.specs.First.{◌>>=◌}
-use Rattle.gx_reader.specs.Reading.{input_of}
+use Rattle.gx_reader.specs.Reading.{input_of, input_from}
 use Rattle.gx_reader.proofs.Resume.{cause_then, cause_same}
 use Rattle.gx_reader.proofs.read.read_text.Goals as goal
 
@@ -22,4 +21,4 @@ pub returns-clause-ok : goal.returns-clause-ok
 returns-clause-ok c =
     let short = not_long (length c.args.text.now) (omega (arith, c.if-text-gt-MAX_TEXT.false)) in
     let so_far = rw (no_bytes c.loop-rest.rest.now (sym c.loop-rest-test.ensures)) at c.loop-rest.invariant.same in
-    rw short (IfOk-weaker c.finish.result _ _ (λ input e. ap (λ r. (r >>= (λ d. input_of d.world d.rays))) (sym so_far) ∙ e) c.finish.ensures.ok)
+    rw short (IfOk-weaker c.finish.result _ _ (λ input e. ap input_from (sym so_far) ∙ e) c.finish.ensures.ok)
