@@ -1,5 +1,5 @@
 -- How a run's parts make its clauses.
-use Rattle.std.proofs.Common.{◌≡◌, ◌⊎◌, ℕ, ◌<◌, ◌≤◌, inl, inr, true, List, [], ◌++◌, length, drop, Option, None, Some, Err, refl, sym, ap, ◌∙◌, subst, arith, length-append, append-nil}
+use Rattle.std.proofs.Common.{◌≡◌, ◌⊎◌, ℕ, ◌<◌, ◌≤◌, inl, inr, true, List, [], ◌++◌, length, drop, Option, None, Some, Ok, Err, refl, sym, ap, ◌∙◌, subst, arith, length-append, append-nil}
 use Rattle.std.specs.Prelude.{nat_lt}
 use Rattle.std.specs.Option.{option_map}
 use Rattle.std.specs.Io.KnownBytes.{IsAtEnd}
@@ -9,6 +9,7 @@ use Rattle.std.proofs.lemmas.List.{drop_all, drop_at}
 use Rattle.gx_io.specs.Bytes.{with_before}
 use Rattle.gx_fraction.specs.Fraction.{Fraction}
 use Rattle.gx_table.specs.declared.fault.FaultName.TheVariants.{LongText}
+use Rattle.gx_reader.specs.declared.input.Input.{Input}
 use Rattle.gx_reader.specs.Reading.{reading, fault_at}
 use Rattle.gx_reader.specs.declared.read.TheConstants.{MAX_TEXT}
 use Rattle.g4exact.specs.declared.outcome.Status.{Status}
@@ -16,8 +17,9 @@ use Rattle.g4exact.specs.declared.outcome.Status.TheVariants.{Clean, Refuted, Te
 use Rattle.g4exact.specs.declared.command.Command.{Command}
 use Rattle.g4exact.specs.declared.command.Command.TheVariants.{Reading}
 use Rattle.g4exact.specs.declared.command.Verb.{Verb}
-use Rattle.g4exact.specs.Output.{IsOutput, IsAnswer}
-use Rattle.g4exact.specs.Ends.{WritesAll, Ends, IsTold, Blames, HasFailed, Answers, IsReadOut, most_read}
+use Rattle.g4exact.specs.declared.command.Verb.TheVariants.{Trace}
+use Rattle.g4exact.specs.Output.{IsOutput, IsAnswer, IsWritten}
+use Rattle.g4exact.specs.Ends.{WritesAll, Wants, Ends, IsTold, Blames, HasFailed, Answers, IsReadOut, most_read}
 
 -- some text is told
 pub told : (left : Option (List ℕ)) → (text : List ℕ) × IsTold left text
@@ -76,6 +78,15 @@ reads_all (Some text) (Some rest) taken e h end =
 pub same_output : (verb : Verb) (grid : Fraction) (text taken : List ℕ) (old new : Option (List ℕ)) (status : Status) → ((grid : Fraction) → reading grid text ≡ reading grid taken)
     → Ends (Some (Reading verb grid)) (IsAnswer verb (reading grid taken)) old new status → Ends (Some (Reading verb grid)) (IsOutput (Some (Reading verb grid)) text) old new status
 same_output verb grid text taken old new status e h = subst (λ read. Ends (Some (Reading verb grid)) (IsAnswer verb read) old new status) (sym (e grid)) h
+
+-- what a verb writes of an input answers a text that reads as it
+pub written_by : (verb : Verb) (grid : Fraction) (input : Input) (old new : Option (List ℕ)) (status : Status) → ((grid : Fraction) → Ends (Some (Reading Trace grid)) (IsWritten Trace input) old new status)
+    → Ends (Some (Reading verb grid)) (IsAnswer verb (Ok input)) old new status
+written_by Trace grid input old new status h = h grid
+
+-- where memory is wanting before the first byte, nothing was written
+pub wants_nothing : (verb : Verb) (grid : Fraction) (output : List ℕ → Status → Type 0) (written : Option (List ℕ)) → Wants (Some (Reading verb grid)) output written written
+wants_nothing Trace grid output written = refl
 
 -- a source that was read out is so at each status
 pub read_out : (old new : Option (List ℕ)) (taken : List ℕ) (status : Status) → length taken ≤ most_read → old ≡ with_before taken new → new ≡ option_map (drop most_read) old → IsReadOut old new status

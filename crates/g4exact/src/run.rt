@@ -48,8 +48,26 @@ pub fn run<S: Source, K: Sink, T: Ledger, Q: Ledger>(
     ensures reads { reads.new ≡ reads.old }
 {
     match command_from(alloc, words) {
-        Some(Command::Reading { verb, grid }) => read(alloc, verb, &grid, source, sink),
+        Some(command) => execute(alloc, command, source, sink),
         None => usage(sink),
+    }
+}
+
+// Reads the source where the command does, and writes its output.
+fn execute<S: Source, K: Sink>(
+    alloc: Global,
+    command: Command,
+    source: &mut S,
+    sink: &mut K,
+) -> Status
+    ensures output { (text : List ℕ) × IsTold (S.left source.old) text
+        × Ends (Some command) (IsOutput (Some command) text) (K.written sink.old) (K.written sink.new) result }
+    ensures read { IsRead (Some command) (S.left source.old) (S.left source.new) result }
+    ensures blames { Blames (S.faults source.old) (S.faults source.new) (K.faults sink.old) (K.faults sink.new) result }
+    ensures last { result ≡ ReadFault → (before : S) × (S.faults before ≡ S.faults source.old) × S.fails before source.new }
+{
+    match command {
+        Command::Reading { verb, grid } => read(alloc, verb, &grid, source, sink),
     }
 }
 

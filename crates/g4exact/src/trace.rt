@@ -1,4 +1,4 @@
-ghost use Rattle.std.specs.Prelude.{◌≡◌, List, ℕ, Some};
+ghost use Rattle.std.specs.Prelude.{◌≡◌, [], List, ℕ, Some};
 ghost use Rattle.gx_io.specs.Bytes.{HasCause, Writes};
 ghost use Rattle.gx_reader.specs.Rays.{IsTraceable};
 ghost use Rattle.gx_tree.specs.World.{path_along};
@@ -80,6 +80,7 @@ impl Print for Reports {
 
 /// Writes the reports of an input's rays, in large pieces.
 pub fn trace<K: Sink>(input: Input, buffer: Buffer, sink: &mut K) -> Status
+    requires { buffer ≡ [] }
     ensures output { (grid : Fraction) → Ends (Some (Reading Trace grid)) (IsWritten Trace input) (K.written sink.old) (K.written sink.new) result }
     ensures blames { (source : ℕ) → Blames source source (K.faults sink.old) (K.faults sink.new) result }
 {

@@ -1,12 +1,11 @@
 use Rattle.std.proofs.Common.{Some, None}
-use Rattle.g4exact.specs.Output.{IsOutput}
 use Rattle.g4exact.proofs.Runs.{told, answered, no_read_fault}
 use Rattle.g4exact.proofs.run.run.Goals as goal
 
 pub returns-in-Some-clause-output : goal.returns-in-Some-clause-output
 returns-in-Some-clause-output g c =
-    let out = c.read.ensures.output in
-    rw (← c.in-Some.ensures) (out.0, out.1, answered (Some (Reading c.in-Some-Reading.verb c.in-Some-Reading.grid)) out.0 _ _ _ _ _ _ c.read.result out.2 c.read.ensures.blames)
+    let out = c.execute.ensures.output in
+    rw (← c.in-Some.ensures) (out.0, out.1, answered (Some c.in-Some.command) out.0 _ _ _ _ _ _ c.execute.result out.2 c.execute.ensures.blames)
 
 pub returns-in-None-clause-output : goal.returns-in-None-clause-output
 returns-in-None-clause-output g c =

@@ -25,7 +25,7 @@ returns-in_err-print_report-clause-bytes g c =
     let report = c.in_err-print_report.ensures.bytes in
     let p = err_from_is_err_and c.from_residual.result c.from_residual.ensures.1 in
     let kept = recursion_from_All IsTraceable input.rays c.count-i-end.ensures.kept in
-    let front = traced_front input.tree input.rays c.loop-i.i _ _ _ l.traced c.ray.result c.ray.ensures.ray report.0 report.1 c.solid.ensures.shape kept report.2.front in
+    let front = traced_front input.tree input.rays c.loop-i.i _ _ _ l.traced c.ray.result c.ray.ensures.ray report.0 report.1 c.solid.ensures.solid kept report.2.front in
     rw p.1 (front.0, front.1, record { all = tt; front = front.2 })
 
 pub returns-clause-bytes : goal.returns-clause-bytes
