@@ -32,7 +32,7 @@ position-member points p m = ap (λ (b : Bool). cond b (Some (number_of points p
     found : nat_lt (number_of points p) (length points) ≡ true
     found = grind (arith, nat_tests, number_of-lt points p m)
 
-pub number_of-point : (points : List V3) (p d : V3) → Contains points p → p ≡ get_or points (number_of points p) d
+number_of-point : (points : List V3) (p d : V3) → Contains points p → p ≡ get_or points (number_of points p) d
 number_of-point points p d m =
     (Decides-is_same p (get_or points (number_of points p) d)).0 (passes_at_first (is_same p) points d (number_of-lt points p m))
 
