@@ -22,47 +22,41 @@ use borrow.Author.Differences.{ints}
 pub side_of-plane_from : (n a p : V3) → dot_of n (difference_of p a) ≡ side_of (plane_from n a) p
 side_of-plane_from = identity (vector3 ∷ vector3 ∷ vector3 ∷ []) (λ n a p. term.dot_of n (term.difference_of p a) ≣ term.dot_of n p ⊖ term.dot_of n a) tt
 
--- ---- a plane through three points has them
-first : (a b c : V3) → dot_of (normal_of a b c) (difference_of a a) ≡ pos 0
-first = identity (vector3 ∷ vector3 ∷ vector3 ∷ []) (λ a b c. term.dot_of (normal_term a b c) (term.difference_of a a) ≣ none) tt
-
-second : (a b c : V3) → dot_of (normal_of a b c) (difference_of b a) ≡ pos 0
-second = identity (vector3 ∷ vector3 ∷ vector3 ∷ []) (λ a b c. term.dot_of (normal_term a b c) (term.difference_of b a) ≣ none) tt
-
-third : (a b c : V3) → dot_of (normal_of a b c) (difference_of c a) ≡ pos 0
-third = identity (vector3 ∷ vector3 ∷ vector3 ∷ []) (λ a b c. term.dot_of (normal_term a b c) (term.difference_of c a) ≣ none) tt
-
 abbrev pub is_on : HalfSpace → V3 → Bool
 is_on h p = int_eq (side_of h p) (pos 0)
 
-on : (h : HalfSpace) (p : V3) → side_of h p ≡ pos 0 → is_on h p ≡ true
-on h p e = (Decides-int_eq (side_of h p) (pos 0)).1 e
+-- a plane along the normal of three of its points has them
+on_three : (h : HalfSpace) (a b c : V3) (rest : List V3) → ((p : V3) → dot_of (normal_of a b c) (difference_of p a) ≡ pos 0 → side_of h p ≡ pos 0) → list_all (is_on h) (a ∷ b ∷ c ∷ rest) ≡ list_all (is_on h) rest
+on_three h a b c rest at = λ i. on a (first a b c) i && (on b (second a b c) i && (on c (third a b c) i && list_all (is_on h) rest))
+  where
+    on : (p : V3) → dot_of (normal_of a b c) (difference_of p a) ≡ pos 0 → is_on h p ≡ true
+    on p e = (Decides-int_eq (side_of h p) (pos 0)).1 (at p e)
 
-all_on : (h : HalfSpace) (a b c : V3) (rest : List V3) → side_of h a ≡ pos 0 → side_of h b ≡ pos 0 → side_of h c ≡ pos 0 → list_all (is_on h) (a ∷ b ∷ c ∷ rest) ≡ list_all (is_on h) rest
-all_on h a b c rest p q r =
-    ap (λ t. t && list_all (is_on h) (b ∷ c ∷ rest)) (on h a p) ∙ ap (λ t. t && list_all (is_on h) (c ∷ rest)) (on h b q) ∙ ap (λ t. t && list_all (is_on h) rest) (on h c r)
+    first : (a b c : V3) → dot_of (normal_of a b c) (difference_of a a) ≡ pos 0
+    first = identity (vector3 ∷ vector3 ∷ vector3 ∷ []) (λ a b c. term.dot_of (normal_term a b c) (term.difference_of a a) ≣ none) tt
 
--- so all corners are where the fourth is
+    second : (a b c : V3) → dot_of (normal_of a b c) (difference_of b a) ≡ pos 0
+    second = identity (vector3 ∷ vector3 ∷ vector3 ∷ []) (λ a b c. term.dot_of (normal_term a b c) (term.difference_of b a) ≣ none) tt
+
+    third : (a b c : V3) → dot_of (normal_of a b c) (difference_of c a) ≡ pos 0
+    third = identity (vector3 ∷ vector3 ∷ vector3 ∷ []) (λ a b c. term.dot_of (normal_term a b c) (term.difference_of c a) ≣ none) tt
+
+-- so all corners are on a facet's plane where the fourth is
 pub is_on-corners : (f : Facet) → list_all (is_on (inward f)) (corners_of f) ≡ list_all (is_on (inward f)) (fourth f.d)
 is_on-corners f =
-    all_on (inward f) f.a f.b f.c (fourth f.d) (at f.a (first f.a f.b f.c)) (at f.b (second f.a f.b f.c)) (at f.c (third f.a f.b f.c))
-  where
-    at : (p : V3) → dot_of (normal_of f.a f.b f.c) (difference_of p f.a) ≡ pos 0 → side_of (inward f) p ≡ pos 0
-    at p e = sym (side_of-plane_from (normal_of f.a f.b f.c) f.a p) ∙ e
+    on_three (inward f) f.a f.b f.c (fourth f.d) (λ p e. sym (side_of-plane_from (normal_of f.a f.b f.c) f.a p) ∙ e)
 
 -- and a facet covers no face that hasn't its corners
 pub covers-is_on : (face : HalfSpace) (f : Facet) → list_all (is_on face) (f.a ∷ f.b ∷ f.c ∷ []) ≡ false → false ≡ covers face f
-covers-is_on face f off = by_bool (covers face f) (λ e. absurd (true≢false (sym (whole (plane_through f.a f.b f.c) refl e) ∙ off))) sym
+covers-is_on face f off =
+    by_bool (covers face f) (λ e. absurd (true≢false (sym (whole (plane_through f.a f.b f.c) refl e) ∙ off))) sym
   where
-    n : V3
-    n = normal_of f.a f.b f.c
-
     whole : (o : Option HalfSpace) → plane_through f.a f.b f.c ≡ o → is_plane face o ≡ true → list_all (is_on face) (f.a ∷ f.b ∷ f.c ∷ []) ≡ true
     whole None through e = absurd (true≢false (sym e))
-    whole (Some h) through e =
-        all_on face f.a f.b f.c [] (at f.a (first f.a f.b f.c)) (at f.b (second f.a f.b f.c)) (at f.c (third f.a f.b f.c))
+    whole (Some h) through e = on_three face f.a f.b f.c [] at
       where
         at : (p : V3) → dot_of (normal_of f.a f.b f.c) (difference_of p f.a) ≡ pos 0 → side_of face p ≡ pos 0
         at p zero =
+            let n = normal_of f.a f.b f.c in
             let is = plane_through_some f.a f.b f.c h through in
-            ap (λ (h : HalfSpace). side_of h p) (is_same_plane-same face h e ∙ is.same) ∙ zero_of_mul (pos (divisor_of (normal_of f.a f.b f.c))) (side_of (plane_at (normal_of f.a f.b f.c) f.a) p) (omega (arith, ints, is.apart)) (side_of-plane_at (normal_of f.a f.b f.c) f.a p ∙ zero)
+            ap (λ (h : HalfSpace). side_of h p) (is_same_plane-same face h e ∙ is.same) ∙ zero_of_mul (pos (divisor_of n)) (side_of (plane_at n f.a) p) (omega (arith, ints, is.apart)) (side_of-plane_at n f.a p ∙ zero)

@@ -2,8 +2,7 @@
 use Rattle.std.proofs.Common.{get_or, ◌≡◌, ◌<◌, ◌+◌, ℕ, suc, Bool, true, false, cond, not, nat_lt, Some, None, List, [], ◌∷◌, ◌++◌, map, flat_map, take, length, Contains, ◌⊎◌, inl, inr, refl, sym, ap, subst, ◌∙◌, arith, true≢false}
 use Rattle.std.specs.List.{position}
 use Rattle.std.proofs.lemmas.Bool.Decides.{nat_tests}
-use Rattle.std.proofs.lemmas.List.{append_assoc, append-nil, take_more}
-use Rattle.std.proofs.lemmas.Grind.{flat_map-append}
+use Rattle.std.proofs.lemmas.List.{append_assoc, flat_map_more, take_more}
 use Rattle.std.proofs.lemmas.List.Sums.{passes_at_first}
 use Rattle.gx_num.specs.declared.vector.V3.{V3}
 use Rattle.gx_num.specs.Vector.{is_same}
@@ -33,7 +32,7 @@ position-member points p m = ap (λ (b : Bool). cond b (Some (number_of points p
     found : nat_lt (number_of points p) (length points) ≡ true
     found = grind (arith, nat_tests, number_of-lt points p m)
 
-pub number_of-point : (points : List V3) (p d : V3) → Contains points p → p ≡ get_or points (number_of points p) d
+number_of-point : (points : List V3) (p d : V3) → Contains points p → p ≡ get_or points (number_of points p) d
 number_of-point points p d m =
     (Decides-is_same p (get_or points (number_of points p) d)).0 (passes_at_first (is_same p) points d (number_of-lt points p m))
 
@@ -60,5 +59,4 @@ added_four edges more counts x y z w e h = subst (λ es. AreCounts (edges ++ es)
 pub added_next : (points : List V3) (facets : List Facet) (i : ℕ) (f : Facet) (counts : List ℕ) → i < length facets → AreCounts (flat_map (numbered_edges points) (take i facets) ++ numbered_edges points (get_or facets i f)) counts → AreCounts (flat_map (numbered_edges points) (take (i + 1) facets)) counts
 added_next points facets i f counts lt h =
     let edges = numbered_edges points in
-    subst (λ es. AreCounts es counts)
-    (sym (ap (flat_map edges) (take_more facets i f lt) ∙ flat_map-append edges (take i facets) (get_or facets i f ∷ []) ∙ ap (λ es. flat_map edges (take i facets) ++ es) (append-nil (edges (get_or facets i f))))) h
+    subst (λ es. AreCounts es counts) (flat_map_more edges [] (take i facets) (get_or facets i f) ∙ ap (flat_map edges) (sym (take_more facets i f lt))) h

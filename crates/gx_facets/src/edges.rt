@@ -1,4 +1,4 @@
-ghost use Rattle.std.specs.Prelude.{◌≡◌, ◌≤◌, ◌<◌, ◌++◌, [], ◌∷◌, ℕ, List, length, slice_index, All, Contains};
+ghost use Rattle.std.specs.Prelude.{◌≡◌, ◌≤◌, ◌<◌, ◌++◌, [], ◌∷◌, ℕ, List, length, All, Contains};
 ghost use Rattle.std.specs.List.{list_all, flat_map, position};
 ghost use Rattle.gx_num.specs.Vector.{is_same};
 ghost use Rattle.gx_shapes.specs.Tessellation.{facet_edges, is_joined as is_joined_among};

@@ -35,7 +35,7 @@ pub fn covers(face: &Plane, facet: &Facet) -> bool
     requires { EachCorner (IsWithin reach) facet.now }
     ensures { result ≡ covers_face face.now facet.now }
 {
-    // Most facets aren't on the face: a plane is made only where one is.
+    // A plane is made only where the corners are on the face: most facets are elsewhere.
     is_on(face, facet)
         && Plane::through(facet.a, facet.b, facet.c).is_some_and(|plane| plane == *face)
 }

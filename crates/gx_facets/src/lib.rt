@@ -4,5 +4,7 @@
 mod edges;
 mod facet;
 mod faults;
+#[cfg(test)]
+mod tests;
 
 pub use faults::facets_fault;

@@ -1,8 +1,9 @@
 -- TESSELLATED: the corners of facets without a fault are the vertices of the solid.
-use Rattle.std.proofs.Common.{get_or, ◌≡◌, ◌≤◌, Bool, true, false, ◌&&◌, not, cond, Option, None, Some, List, [], ◌∷◌, All, ℤ, pos, ◌*ℤ◌, ◌-ℤ◌, ◌≤ℤ◌, length, refl, sym, subst, ◌∙◌, arith, true≢false}
+use Rattle.std.proofs.Common.{get_or, ◌≡◌, ◌≤◌, Bool, true, false, not, cond, Option, None, Some, List, [], ◌∷◌, All, ℤ, pos, ◌*ℤ◌, ◌-ℤ◌, ◌≤ℤ◌, length, refl, sym, subst, ◌∙◌, arith, true≢false}
 use Rattle.std.specs.List.{list_all}
 use Rattle.std.specs.Ordering.{int_eq}
-use Rattle.std.proofs.lemmas.Bool.Decides.{nat_tests, Decides-and}
+use Rattle.std.proofs.lemmas.Bool.{and_parts, not-false, not-true}
+use Rattle.std.proofs.lemmas.Bool.Decides.{nat_tests}
 use Rattle.std.proofs.lemmas.List.Elements.{All-map, All-weaker, All-nil, All-cons}
 use Rattle.std.proofs.lemmas.List.Folds.{Any-from_list_any}
 use Rattle.std.proofs.lemmas.List.Sums.{AllPass-from_list_all}
@@ -42,19 +43,8 @@ first_true-none (row ∷ rows) e = go row.0 refl e (first_true-none rows)
     go true t none rest = cc
     go false t none rest = All-cons (λ row. row.0 ≡ false) row rows t (rest none)
 
-not_true : (b : Bool) → not b ≡ true → b ≡ false
-not_true true e = absurd (true≢false (sym e))
-not_true false e = refl
-
 passed : {X : Type 0} (test : X → Bool) (xs : List X) → not (list_all test xs) ≡ false → All (λ x. test x ≡ true) xs
-passed test xs e = AllPass-from_list_all test xs (not_false (list_all test xs) e)
-  where
-    not_false : (b : Bool) → not b ≡ false → b ≡ true
-    not_false true e = refl
-    not_false false e = absurd (true≢false e)
-
-both : (a b : Bool) → (a && b) ≡ true → (a ≡ true) × (b ≡ true)
-both a b e = (Decides-and a b (λ e. e, λ e. e) (λ e. e, λ e. e)).0 e
+passed test xs e = AllPass-from_list_all test xs (not-false (list_all test xs) e)
 
 -- ---- a point at a facet's inequality is at that of the facet's plane, and so at a face in it
 multiple : (d : ℤ) (n a : V3) (p : Vec4) → normal_dot (plane_from (times3 d n) a) p -ℤ dot_of (times3 d n) a *ℤ p.w ≡ d *ℤ normal_dot (plane_from n a) p -ℤ d *ℤ (dot_of n a *ℤ p.w)
@@ -118,6 +108,6 @@ module _ (facets : List Facet) (accepted : first_true (tessellation_faults facet
 
       bound : (f : Facet) → is_planar f ≡ true → is_outer (distinct vertices) f ≡ true → IsBound vertices (inward f)
       bound f p o = record {
-        plane = not_true (is_zero (inward f).n) (both (not (is_zero (inward f).n)) (list_all (λ p. int_eq (side_of (inward f) p) (pos 0)) (corners_of f)) p).0;
-        supports = from_distinct (inward f) (both (supports (inward f) (distinct vertices)) (list_all (turns_well (inward f)) (around (around (corners_of f)))) o).0;
+        plane = not-true (is_zero (inward f).n) (and_parts (not (is_zero (inward f).n)) (list_all (λ p. int_eq (side_of (inward f) p) (pos 0)) (corners_of f)) p).0;
+        supports = from_distinct (inward f) (and_parts (supports (inward f) (distinct vertices)) (list_all (turns_well (inward f)) (around (around (corners_of f)))) o).0;
       }
