@@ -6,6 +6,8 @@ mod numbers;
 mod read;
 mod sections;
 mod stand_in;
+#[cfg(test)]
+mod tests;
 mod values;
 mod vertices;
 mod whole;
