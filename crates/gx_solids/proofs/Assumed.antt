@@ -13,11 +13,5 @@ use Rattle.gx_shapes.specs.Accepted.{IsFigure, IsSolid}
 pub vertices_within : (figure : Figure) → IsFigure figure → All (IsWithin (unsigned_abs M)) (vertices_of figure)
 vertices_within figure is = ?
 
-pub corners_within : (corners : List V3) (s t : Section) → IsFigure (Extruded corners s t) → All (IsWithin (unsigned_abs M)) corners
-corners_within corners s t is = ?
-
-pub scales_positive : (corners : List V3) (s t : Section) → IsFigure (Extruded corners s t) → (pos 0 <ℤ s.scale.den) × (pos 0 <ℤ t.scale.den)
-scales_positive corners s t is = ?
-
 pub whole_hull : (figure : Figure) → IsSolid figure → (are_coplanar (distinct (vertices_of figure)) ≡ false) × (length (distinct (vertices_of figure)) ≤ 32)
 whole_hull figure is = ?

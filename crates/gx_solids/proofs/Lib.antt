@@ -1,3 +1,4 @@
 mod Assumed
 mod Casts
+mod Given
 mod Wholes

@@ -91,9 +91,9 @@ whole_where_hull (Tessellated facets) hull none e =
     let solid = hull_points (vertices_of (Tessellated facets)) hull e in rw (solid.0, solid.1) refl
 
 -- a polygon's fault is that of the whole
-pub whole_where_polygon : (figure : Figure) (name : FaultName) → polygon_fault figure ≡ Some name → whole_fault figure ≡ Some name
-whole_where_polygon (Cuboid hx hy hz) name e = absurd cc
-whole_where_polygon (Trd dx1 dx2 dy1 dy2 dz) name e = absurd cc
-whole_where_polygon (Tet a b c d) name e = absurd cc
-whole_where_polygon (Extruded corners s t) name e = e
-whole_where_polygon (Tessellated facets) name e = absurd cc
+pub whole_where_polygon : (figure : Figure) (fault : FaultName) → polygon_fault figure ≡ Some fault → whole_fault figure ≡ Some fault
+whole_where_polygon (Cuboid hx hy hz) fault e = absurd cc
+whole_where_polygon (Trd dx1 dx2 dy1 dy2 dz) fault e = absurd cc
+whole_where_polygon (Tet a b c d) fault e = absurd cc
+whole_where_polygon (Extruded corners s t) fault e = e
+whole_where_polygon (Tessellated facets) fault e = absurd cc
