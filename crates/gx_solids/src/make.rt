@@ -31,11 +31,7 @@ pub fn solid(alloc: Global, kind: SolidKind, values: &[i64]) -> Result<Solid, So
     }
 }
 
-fn read_all(
-    alloc: Global,
-    kind: SolidKind,
-    numbers: &mut Numbers<'_>,
-) -> Result<Figure, Refusal>
+fn read_all(alloc: Global, kind: SolidKind, numbers: &mut Numbers<'_>) -> Result<Figure, Refusal>
     ensures reads { Reads (all_of kind numbers.old) result numbers.new }
     ensures kind { IfOk result (λ figure. kind_of figure ≡ kind) }
 {

@@ -116,7 +116,10 @@ impl<'a> Values for Numbers<'a> {
 
     fn scale(&mut self) -> Result<Scale, Fault> {
         let s = self.pair()?;
-        if s.num.unsigned_abs() <= MAX_MAGNITUDE && 0 < s.den && s.den.unsigned_abs() <= MAX_MAGNITUDE {
+        if s.num.unsigned_abs() <= MAX_MAGNITUDE
+            && 0 < s.den
+            && s.den.unsigned_abs() <= MAX_MAGNITUDE
+        {
             return Ok(s);
         }
         Err(self.fault(FaultName::Scale))

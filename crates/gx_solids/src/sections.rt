@@ -75,7 +75,10 @@ fn moved(offset: i64, scale: Scale, k: i64) -> i128
     requires { pos 0 <ℤ scale.den }
     ensures { result ≡ offset +ℤ spec.scaled scale k }
 {
-    sum(offset, quotient(product(scale.num, k), i128::from(scale.den)))
+    sum(
+        offset,
+        quotient(product(scale.num, k), i128::from(scale.den)),
+    )
 }
 
 fn product(a: i64, b: i64) -> i128
