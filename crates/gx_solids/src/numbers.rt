@@ -1,5 +1,4 @@
-ghost use Rattle.std.specs.Prelude.{◌≡◌, ◌<◌, ◌+◌, ◌-◌, ◌≤◌, ◌^◌, ◌≤ℤ◌, ◌<ℤ◌, pos, unsigned_abs, IfOk, length};
-ghost use Rattle.gx_num.specs.declared.vector.TheConstants.{M};
+ghost use Rattle.std.specs.Prelude.{◌≡◌, ◌<◌, ◌+◌, ◌-◌, ◌^◌, length};
 ghost use Rattle.gx_form.specs.Form.{Exactly};
 ghost use Rattle.gx_shapes.specs.Numbers as spec;
 

@@ -1,6 +1,6 @@
 //! Reading the values of a solid: each function mirrors the definition of its name.
 
-ghost use Rattle.std.specs.Prelude.{◌≡◌, ◌≤◌, ◌<ℤ◌, pos, unsigned_abs, IfOk};
+ghost use Rattle.std.specs.Prelude.{◌≡◌, ◌≤◌, ◌<ℤ◌, pos, IfOk};
 ghost use Rattle.gx_form.specs.Form.{Exactly, Reads, collect, forget};
 ghost use Rattle.gx_shapes.specs.Figure as spec;
 ghost use Rattle.gx_shapes.specs.Solid.{kind_of};
