@@ -6,6 +6,8 @@ mod make;
 mod numbers;
 mod read;
 mod sections;
+#[cfg(test)]
+mod tests;
 mod values;
 mod vertices;
 mod whole;

@@ -1,5 +1,4 @@
-ghost use Rattle.std.specs.Prelude.{◌≡◌, ◌<◌, ◌+◌, ◌-◌, ◌≤◌, ◌^◌, ◌≤ℤ◌, ◌<ℤ◌, pos, unsigned_abs, IfOk, length};
-ghost use Rattle.gx_num.specs.declared.vector.TheConstants.{M};
+ghost use Rattle.std.specs.Prelude.{◌≡◌, ◌<◌, ◌+◌, ◌-◌, ◌^◌, length};
 ghost use Rattle.gx_form.specs.Form.{Exactly};
 ghost use Rattle.gx_shapes.specs.Numbers as spec;
 
@@ -10,7 +9,8 @@ use gx_shapes::Scale;
 use gx_table::FaultName;
 use std::marker::Model;
 
-const MAX_MAGNITUDE: u64 = 4611686018427387904;
+// The greatest magnitude in a scale.
+const MAX_MAGNITUDE: u64 = 1 << 62;
 
 /// The values of a solid in a list, which are read from the left.
 #[derive(Drop)]
@@ -42,8 +42,8 @@ impl<'a> Numbers<'a> {
     }
 
     /// No number is left.
-    pub fn end(&mut self) -> Result<(), Fault>
-        ensures { Exactly (spec.end self.old) result self.new }
+    pub fn end(&self) -> Result<(), Fault>
+        ensures { Exactly (spec.end self.now) result self.now }
     {
         if !self.left.is_empty() {
             return Err(self.missing());

@@ -1,6 +1,6 @@
 //! Reading the values of a solid: each function mirrors the definition of its name.
 
-ghost use Rattle.std.specs.Prelude.{◌≡◌, ◌≤◌, ◌<ℤ◌, pos, unsigned_abs, IfOk};
+ghost use Rattle.std.specs.Prelude.{◌≡◌, ◌≤◌, ◌<ℤ◌, pos, IfOk};
 ghost use Rattle.gx_form.specs.Form.{Exactly, Reads, collect, forget};
 ghost use Rattle.gx_shapes.specs.Figure as spec;
 ghost use Rattle.gx_shapes.specs.Solid.{kind_of};
@@ -200,13 +200,9 @@ fn section<V: Values>(values: &mut V, corners: &[V3], z: i64) -> Result<Section,
     section_from(values, corners, Section { z, x, y, scale })
 }
 
-fn section_from<V: Values>(
-    values: &mut V,
-    corners: &[V3],
-    section: Section,
-) -> Result<Section, Fault>
+fn section_from<V: Values>(values: &V, corners: &[V3], section: Section) -> Result<Section, Fault>
     requires { pos 0 <ℤ section.scale.den }
-    ensures { Exactly (spec.section_from V.source corners.now section values.old) result values.new }
+    ensures { Exactly (spec.section_from V.source corners.now section values.now) result values.now }
 {
     if section.scale.num <= 0 {
         return Err(values.fault(FaultName::Scale));
