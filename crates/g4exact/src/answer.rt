@@ -29,13 +29,7 @@ impl Print for FaultLine {
 }
 
 /// Writes the line of a text's fault; or where there is none, what the verb writes.
-pub fn answer<K: Sink>(
-    alloc: Global,
-    verb: Verb,
-    grid: &Grid,
-    text: &[u8],
-    sink: &mut K,
-) -> Status
+pub fn answer<K: Sink>(alloc: Global, verb: Verb, grid: &Grid, text: &[u8], sink: &mut K) -> Status
     ensures output { Ends (Some (Reading verb grid.now)) (IsAnswer verb (reading grid.now text.now)) (K.written sink.old) (K.written sink.new) result }
     ensures blames { (source : ℕ) → Blames source source (K.faults sink.old) (K.faults sink.new) result }
 {

@@ -8,8 +8,8 @@ ghost use Rattle.g4exact.specs.Ends.{Ends, IsTold, IsRead, JudgesWords, NamesWor
 use crate::answer::answer;
 use crate::command::{Command, Verb, command_from};
 use crate::outcome::Status;
-use gx_io::{ReadError, Sink, Source, read_up_to};
 use gx_expr::Grid;
+use gx_io::{ReadError, Sink, Source, read_up_to};
 use gx_print::print_usage;
 use gx_reader::MAX_TEXT;
 use gx_steps::Steps;

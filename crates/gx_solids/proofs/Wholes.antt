@@ -1,5 +1,5 @@
 -- The fault of a whole figure by the hull of its vertices.
-use Rattle.std.proofs.Common.{◌≡◌, Bool, true, false, cond, List, length, Option, None, Some, Ok, Err, refl, sym, ap, ◌∙◌, arith}
+use Rattle.std.proofs.Common.{◌≡◌, Bool, true, false, cond, List, length, Option, None, Some, Ok, Err, refl, ◌∙◌, arith}
 use Rattle.std.specs.Prelude.{nat_lt, Result}
 use Rattle.std.proofs.lemmas.Bool.Decides.{nat_tests}
 use Rattle.gx_num.specs.declared.vector.V3.{V3}
