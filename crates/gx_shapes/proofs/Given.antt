@@ -4,6 +4,7 @@ use Rattle.std.specs.Prelude.{nat_le, not}
 use Rattle.std.specs.Ordering.{int_eq}
 use Rattle.std.proofs.lemmas.List.Elements.{All-nil, All-append, All-cons}
 use Rattle.std.proofs.lemmas.Bool.Decides.{Decides-int_eq, Decides-and, nat_tests}
+use Rattle.std.proofs.lemmas.Bool.{and_parts, not-false}
 use Rattle.gx_algebra.proofs.Order.{by_sign}
 use Rattle.gx_shapes.proofs.Extrusions.{IsScaled}
 use Rattle.gx_shapes.proofs.Trapezoids.{IsWidth}
@@ -128,10 +129,6 @@ pub record IsSource {S : Type 0} (source : Source S) : Type 0 where
 above_zero : (n : ℤ) → int_le n (pos 0) ≡ false → pos 0 <ℤ n
 above_zero n e = omega (arith, ints)
 
-pub is_true_by : (b : Bool) → not b ≡ false → b ≡ true
-is_true_by true e = refl
-is_true_by false e = cc
-
 two_widths : (a b : ℤ) → pos 0 ≤ℤ a → pos 0 ≤ℤ b → (int_eq a (pos 0) && int_eq b (pos 0)) ≡ false → IsWidth a b
 two_widths a b h k e = record { first = h; second = k; some = by_sign (a +ℤ b) (λ lt. absurd (omega (arith, ints, h, k))) (λ z. absurd (both z)) (λ lt. lt) }
   where
@@ -169,7 +166,7 @@ module _ {S : Type 0} (source : Source S) (is : IsSource source) where
       test_gives (int_le s.scale.num (pos 0)) source _ _ _ (λ above.
       test_gives (not (are_whole s.scale corners)) source _ _ _ (λ whole.
       test_gives (not (are_near s corners)) source _ (pure s) _ (λ near.
-      pure_gives s _ (record { z = hz; scale = record { num = above_zero s.scale.num above; den = den; whole = is_true_by _ whole }; near = is_true_by _ near }, refl))))
+      pure_gives s _ (record { z = hz; scale = record { num = above_zero s.scale.num above; den = den; whole = not-false _ whole }; near = not-false _ near }, refl))))
 
   section_gives : (corners : List V3) (z : ℤ) → IsNear z → Gives (spec.section_at source corners z) (λ s. IsSection corners s × (s.z ≡ z))
   section_gives corners z hz =
@@ -235,23 +232,19 @@ kept_gives false q fault P h = record { given = λ s b t e. absurd cc }
 anything : {S A : Type 0} (p : Form S A) → Gives p (λ _. Unit {0})
 anything p = record { given = λ s a t e. tt }
 
-pub and_both : (a b : Bool) → (a && b) ≡ true → (a ≡ true) × (b ≡ true)
-and_both true b e = (refl, e)
-and_both false b e = absurd cc
-
 pub near_value : (n : ℤ) → nat_le (unsigned_abs n) bound ≡ true → IsNear n
 near_value n e = grind (arith, nat_tests, e)
 
 between : (low high n : ℤ) → (int_le low n && int_le n high) ≡ true → (low ≤ℤ n) × (n ≤ℤ high)
-between low high n e = let both = and_both (int_le low n) (int_le n high) e in (omega (arith, ints, both.0), omega (arith, ints, both.1))
+between low high n e = let both = and_parts (int_le low n) (int_le n high) e in (omega (arith, ints, both.0), omega (arith, ints, both.1))
 
 abbrev is_scale : Scale → Bool
 is_scale k = nat_le (unsigned_abs k.num) (2 ^ 62) && int_lt (pos 0) k.den && nat_le (unsigned_abs k.den) (2 ^ 62)
 
 den_above : (k : Scale) → is_scale k ≡ true → pos 0 <ℤ k.den
 den_above k e =
-    let both = and_both (nat_le (unsigned_abs k.num) (2 ^ 62) && int_lt (pos 0) k.den) (nat_le (unsigned_abs k.den) (2 ^ 62)) e in
-    omega (arith, ints, (and_both (nat_le (unsigned_abs k.num) (2 ^ 62)) (int_lt (pos 0) k.den) both.0).1)
+    let both = and_parts (nat_le (unsigned_abs k.num) (2 ^ 62) && int_lt (pos 0) k.den) (nat_le (unsigned_abs k.den) (2 ^ 62)) e in
+    omega (arith, ints, (and_parts (nat_le (unsigned_abs k.num) (2 ^ 62)) (int_lt (pos 0) k.den) both.0).1)
 
 numbers_source : IsSource numbers
 numbers_source = record {

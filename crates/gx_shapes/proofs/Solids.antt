@@ -1,9 +1,10 @@
 -- Every kind: the vertices of a solid are its vertices, aren't coplanar, and are few and near; its faces are the solid.
-use Rattle.std.proofs.Common.{◌≡◌, ◌≤◌, Bool, true, false, not, Option, None, Some, List, [], ◌∷◌, map, length, ℤ, pos, neg_ℤ, ◌<ℤ◌, unsigned_abs, All, refl, ◌∙◌, arith, length-append}
+use Rattle.std.proofs.Common.{◌≡◌, ◌≤◌, true, false, not, Option, None, Some, List, [], ◌∷◌, map, length, ℤ, pos, neg_ℤ, ◌<ℤ◌, unsigned_abs, All, ◌∙◌, arith, length-append}
 use Rattle.std.proofs.lemmas.List.{length-map}
 use Rattle.std.specs.Prelude.{nat_le}
 use Rattle.std.proofs.lemmas.List.Elements.{All-nil, All-cons, All-head, All-tail, All-append, All-map, All-weaker}
 use Rattle.std.proofs.lemmas.List.Sums.{AllPass-from_list_all}
+use Rattle.std.proofs.lemmas.Bool.{and_parts, not-false}
 use Rattle.gx_num.specs.declared.vector.V3.{V3}
 use Rattle.gx_num.specs.Vector.{IsWithin}
 use Rattle.gx_algebra.proofs.Lists.{All-four}
@@ -13,7 +14,6 @@ use Rattle.gx_convex.proofs.Distinct.{IsHullOf-distinct, length-distinct_le}
 use Rattle.gx_convex.proofs.Coplanar.{are_coplanar-distinct}
 use Rattle.gx_convex.proofs.Cutting.{faces_are_the_solid}
 use Rattle.gx_polygon.specs.Polygon.{is_straight, is_convex}
-use Rattle.gx_table.specs.declared.fault.FaultName.{FaultName}
 use Rattle.gx_table.specs.declared.fault.FaultName.TheVariants.{Flat, NotConvex}
 use Rattle.gx_shapes.specs.declared.facet.Facet.{Facet}
 use Rattle.gx_shapes.specs.declared.section.Section.{Section}
@@ -24,22 +24,17 @@ use Rattle.gx_shapes.specs.Straight.{corners, frustum}
 use Rattle.gx_shapes.specs.Extrusion.{corner, extrusion_vertices}
 use Rattle.gx_shapes.specs.Tessellation.{corners_of, fourth, tessellation_vertices}
 use Rattle.gx_shapes.specs.Figure.{is_near}
-use Rattle.gx_shapes.specs.Solid.{solid_of, vertices_of, whole_fault, first_true}
+use Rattle.gx_shapes.specs.Solid.{solid_of, vertices_of, whole_fault}
 use Rattle.gx_shapes.specs.Accepted.{IsFigure, IsSolid}
 use Rattle.gx_shapes.specs.Laws.{FacesAreTheSolid}
-use Rattle.gx_shapes.proofs.Given.{bound, IsNear, IsHalf, IsWidths, IsSection, IsCorner, IsFourth, IsFacet, IsGiven, given, and_both, near_value, is_true_by}
+use Rattle.gx_shapes.proofs.Given.{bound, IsNear, IsHalf, IsWidths, IsSection, IsCorner, IsFourth, IsFacet, IsGiven, given, near_value}
 use Rattle.gx_shapes.proofs.Extrusions.{extrusion_hull, extrusion_solid}
-use Rattle.gx_shapes.proofs.Tessellations.{tessellation_hull, tessellation_solid, tessellation_few}
+use Rattle.gx_shapes.proofs.Tessellations.{first_true-none, tessellation_hull, tessellation_solid, tessellation_few}
 use Rattle.gx_shapes.proofs.Tetrahedra.{tetrahedron_hull, tetrahedron_apart}
 use Rattle.gx_shapes.proofs.Trapezoids.{IsFrustum, box_hull, trapezoid_hull, frustum_solid}
 use borrow.Author.Differences.{ints}
 
--- ---- what the whole faults say
-
-none_where : (b : Bool) (fault : FaultName) (rows : List (Bool × FaultName)) → first_true ((b, fault) ∷ rows) ≡ None → (b ≡ false) × (first_true rows ≡ None)
-none_where true fault rows e = absurd cc
-none_where false fault rows e = (refl, e)
-
+-- ---- half-lengths
 box_frustum : {x y z : ℤ} → IsHalf x → IsHalf y → IsHalf z → IsFrustum x x y y z
 box_frustum {x} {y} {z} hx hy hz =
     let ax = hx.above in
@@ -62,14 +57,15 @@ hull_by (figure.Trd x1 x2 y1 y2 z) is whole =
     let frustum = trapezoid_frustum is.0 is.1 is.2 in
     (trapezoid_hull x1 x2 y1 y2 z frustum, frustum_solid x1 x2 y1 y2 z frustum)
 hull_by (figure.Tet a b c d) is whole =
-    let apart = (none_where (are_coplanar (a ∷ b ∷ c ∷ d ∷ [])) Flat [] whole).0 in
+    let apart = first_true-none ((are_coplanar (a ∷ b ∷ c ∷ d ∷ []), Flat) ∷ []) whole 0 (true, Flat) (omega arith) in
     (tetrahedron_hull a b c d (tetrahedron_apart a b c d apart), apart)
 hull_by (figure.Extruded cs s t) is whole =
-    let bent = none_where (is_straight cs) Flat ((not (is_convex cs), NotConvex) ∷ []) whole in
-    let convex = is_true_by (is_convex cs) (none_where (not (is_convex cs)) NotConvex [] bent.1).0 in
+    let none = first_true-none ((is_straight cs, Flat) ∷ (not (is_convex cs), NotConvex) ∷ []) whole in
+    let bent = none 0 (true, Flat) (omega arith) in
+    let convex = not-false (is_convex cs) (none 1 (true, Flat) (omega arith)) in
     let flat = All-weaker IsCorner (λ (c : V3). c.z ≡ pos 0) (λ c h. h.flat) cs is.each in (
-      extrusion_hull s t cs is.above is.first.scale is.second.scale flat bent.0 convex,
-      extrusion_solid s t cs is.above is.first.scale bent.0,
+      extrusion_hull s t cs is.above is.first.scale is.second.scale flat bent convex,
+      extrusion_solid s t cs is.above is.first.scale bent,
     )
 hull_by (figure.Tessellated facets) is whole = (tessellation_hull facets whole, tessellation_solid facets whole)
 
@@ -98,7 +94,7 @@ frustum_within x1 x2 y1 y2 z hx1 hx2 hy1 hy2 hz =
 is_near-within : (s : Section) → IsNear s.z → (c : V3) → is_near (corner s c) ≡ true → IsWithin bound (corner s c)
 is_near-within s hz c e =
     let p = corner s c in
-    let both = and_both (nat_le (unsigned_abs p.x) bound) (nat_le (unsigned_abs p.y) bound) e in
+    let both = and_parts (nat_le (unsigned_abs p.x) bound) (nat_le (unsigned_abs p.y) bound) e in
     record { x = near_value p.x both.0; y = near_value p.y both.1; z = hz }
 
 section_within : (cs : List V3) (s : Section) → IsSection cs s → All (IsWithin bound) (map (corner s) cs)

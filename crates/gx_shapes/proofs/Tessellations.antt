@@ -35,7 +35,7 @@ use Rattle.gx_polygon.specs.Around.{around}
 use borrow.Author.Differences.{ints}
 
 -- ---- no test holds where none has a name
-first_true-none : (rows : List (Bool × FaultName)) → first_true rows ≡ None → All (λ row. row.0 ≡ false) rows
+pub first_true-none : (rows : List (Bool × FaultName)) → first_true rows ≡ None → All (λ row. row.0 ≡ false) rows
 first_true-none [] e = All-nil (λ row. row.0 ≡ false)
 first_true-none (row ∷ rows) e = go row.0 refl e (first_true-none rows)
   where
