@@ -11,7 +11,7 @@ fn solid_of(
     kind: SolidKind,
     values: &[i64],
 ) -> Result<Result<Solid, SolidFault>, Fail> {
-    if values.len() > 100 {
+    if values.len() > 200 {
         return Err("too many values".into());
     }
     Ok(solid(alloc, kind, values))
@@ -50,6 +50,29 @@ fn values_make_a_solid(rt: HostRuntime) -> Result<(), Fail> {
                 5, -10, -10, 0, -10, 10, -10, 10, 10, -10, 10, 2, -5, 0, 0, 1, 1, 5, 0, 0, 1, 2,
             ],
             10,
+            6,
+        ),
+        // A box by six quadrilaterals, and by twelve triangles.
+        (
+            SolidKind::Tessellated,
+            &[
+                6, 4, 0, 0, 0, 0, 2, 0, 2, 2, 0, 2, 0, 0, 4, 0, 0, 2, 2, 0, 2, 2, 2, 2, 0, 2, 2, 4,
+                0, 0, 0, 2, 0, 0, 2, 0, 2, 0, 0, 2, 4, 0, 2, 0, 0, 2, 2, 2, 2, 2, 2, 2, 0, 4, 0, 0,
+                0, 0, 0, 2, 0, 2, 2, 0, 2, 0, 4, 2, 0, 0, 2, 2, 0, 2, 2, 2, 2, 0, 2,
+            ],
+            8,
+            6,
+        ),
+        (
+            SolidKind::Tessellated,
+            &[
+                12, 3, 0, 0, 0, 0, 2, 0, 2, 2, 0, 3, 0, 0, 0, 2, 2, 0, 2, 0, 0, 3, 0, 0, 2, 2, 0,
+                2, 2, 2, 2, 3, 0, 0, 2, 2, 2, 2, 0, 2, 2, 3, 0, 0, 0, 2, 0, 0, 2, 0, 2, 3, 0, 0, 0,
+                2, 0, 2, 0, 0, 2, 3, 0, 2, 0, 0, 2, 2, 2, 2, 2, 3, 0, 2, 0, 2, 2, 2, 2, 2, 0, 3, 0,
+                0, 0, 0, 0, 2, 0, 2, 2, 3, 0, 0, 0, 0, 2, 2, 0, 2, 0, 3, 2, 0, 0, 2, 2, 0, 2, 2, 2,
+                3, 2, 0, 0, 2, 2, 2, 2, 0, 2,
+            ],
+            8,
             6,
         ),
         // A tetrahedron, and a pyramid on a square.
@@ -216,6 +239,14 @@ fn a_tessellation_has_a_fault(rt: HostRuntime) -> Result<(), Fail> {
                 0, 4, 0,
             ],
             SolidFault::Whole(FaultName::MissingFace),
+        ),
+        // A facet twice.
+        (
+            &[
+                5, 3, 0, 0, 0, 0, 4, 0, 4, 0, 0, 3, 0, 0, 0, 4, 0, 0, 0, 0, 4, 3, 0, 0, 0, 0, 0, 4,
+                0, 4, 0, 3, 4, 0, 0, 0, 4, 0, 0, 0, 4, 3, 4, 0, 0, 0, 4, 0, 0, 0, 4,
+            ],
+            SolidFault::Whole(FaultName::OpenEdge),
         ),
         // The point (2, 2, 0) is amid an edge.
         (
