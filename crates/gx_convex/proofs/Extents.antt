@@ -8,7 +8,7 @@ use Rattle.gx_algebra.proofs.Lists.{All-from_map}
 use Rattle.gx_convex.specs.Extent.{lower, upper, extent_of}
 
 -- a coordinate of a fold is the fold of the coordinates
-fold-part : (part : V3 → ℤ) (f : V3 → V3 → V3) (g : ℤ → ℤ → ℤ) → ((a b : V3) → part (f a b) ≡ g (part a) (part b)) → (p : V3) (ps : List V3) → part (fold f p ps) ≡ fold g (part p) (map part ps)
+pub fold-part : (part : V3 → ℤ) (f : V3 → V3 → V3) (g : ℤ → ℤ → ℤ) → ((a b : V3) → part (f a b) ≡ g (part a) (part b)) → (p : V3) (ps : List V3) → part (fold f p ps) ≡ fold g (part p) (map part ps)
 fold-part part f g e p [] = refl
 fold-part part f g e p (q ∷ ps) = fold-part part f g e (f p q) ps ∙ ap (λ a. fold g a (map part ps)) (e p q)
 

@@ -36,7 +36,7 @@ dot4-self_zero v h =
     (square-zero v.w (omega (arith, ints, x, y, z, w)))
 
 -- ---- sums of members
-dot4-combination : (ks : List ℕ) (members : List Vec4) (v : Vec4) → IsAbove members v → pos 0 ≤ℤ dot4 v (combination ks members)
+pub dot4-combination : (ks : List ℕ) (members : List Vec4) (v : Vec4) → IsAbove members v → pos 0 ≤ℤ dot4 v (combination ks members)
 dot4-combination (k ∷ ks) (m ∷ members) v h =
     let P : Vec4 → Type 0 = λ a. pos 0 ≤ℤ dot4 a v in
     omega (arith, ints, dot4-plus4 v (times4 (pos k) m) (combination ks members), dot4-times4 (pos k) v m, mul_nonneg (pos k) (dot4 v m) (omega (arith, ints)) (omega (arith, ints, dot4_comm v m, All-head P m members h)), dot4-combination ks members v (All-tail P m members h))

@@ -150,7 +150,7 @@ move members d v q spans apart above = go (first members d v above) (first membe
 
 -- ---- three members met
 -- the vectors that a, b and c leave free are the multiples of their minors
-at_three : (a b c g p v : Vec4) → dot4 a v ≡ pos 0 → dot4 b v ≡ pos 0 → dot4 c v ≡ pos 0 → dot4 g (minors a b c) *ℤ dot4 p v ≡ dot4 p (minors a b c) *ℤ dot4 g v
+pub at_three : (a b c g p v : Vec4) → dot4 a v ≡ pos 0 → dot4 b v ≡ pos 0 → dot4 c v ≡ pos 0 → dot4 g (minors a b c) *ℤ dot4 p v ≡ dot4 p (minors a b c) *ℤ dot4 g v
 at_three a b c g p v av bv cv =
     omega (arith, ints, cramer a b c g p v, gone (det4 p g b c) av, gone (det4 p g c a) bv, gone (det4 p g a b) cv)
   where
@@ -200,7 +200,7 @@ unit_y = record { x = pos 0; y = pos 1; z = pos 0; w = pos 0 }
 abbrev unit_z : Vec4
 unit_z = record { x = pos 0; y = pos 0; z = pos 1; w = pos 0 }
 
-abbrev unit_w : Vec4
+abbrev pub unit_w : Vec4
 unit_w = record { x = pos 0; y = pos 0; z = pos 0; w = pos 1 }
 
 -- two vectors that are independent of g and of each other, and a vector that shows it
