@@ -20,30 +20,26 @@ pub fn accepted(
         SolidKind::Cuboid => Vec::from_slice(alloc, &[x, y, z]),
         SolidKind::Trd => Vec::from_slice(alloc, &[x, y, y, x, z]),
         SolidKind::Tet => Vec::from_slice(alloc, &[0, 0, 0, x, 0, 0, -y, y, 0, x, -z, z]),
-        SolidKind::Extruded => extruded(alloc, &polygon(alloc, x, vertices / 2)?, z),
+        SolidKind::Extruded => extruded(alloc, &polygon(alloc, vertices / 2)?, z),
         SolidKind::Tessellated => {
-            tessellated(alloc, &facets(alloc, x, vertices.saturating_sub(2), z)?)
+            tessellated(alloc, &facets(alloc, vertices.saturating_sub(2), z)?)
         }
     }
 }
 
 /// Values of a polygon with 16 corners, the last of which is a dent.
 pub fn dented(alloc: Global, random: &mut Random) -> Result<Vec<i64>, AllocError> {
-    let (x, z) = (random.length(), random.length());
-    let mut corners = polygon(alloc, x, 15)?;
-    corners.push(inside(x, 15))?;
-    extruded(alloc, &corners, z)
+    let mut corners = polygon(alloc, 15)?;
+    corners.push(V3 { x: 0, y: 15, z: 0 })?;
+    extruded(alloc, &corners, random.length())
 }
 
 /// Values of 3276 facets, the first of which comes 3217 times.
 pub fn repeated(alloc: Global, random: &mut Random) -> Result<Vec<i64>, AllocError> {
-    let (x, z) = (random.length(), random.length());
-    let facets = facets(alloc, x, 30, z)?;
+    let facets = facets(alloc, 30, random.length())?;
     let mut all = Vec::new(alloc);
     if let Some(first) = facets.first() {
-        for _ in 0..3216 {
-            all.push(*first)?;
-        }
+        all.resize(3216, *first)?;
     }
     all.extend_from_slice(&facets)?;
     tessellated(alloc, &all)
@@ -70,16 +66,12 @@ fn tessellated(alloc: Global, facets: &[[V3; 3]]) -> Result<Vec<i64>, AllocError
 }
 
 // The facets of two pyramids on a polygon, whose apexes are z over and under a point inside it.
-fn facets(alloc: Global, size: i64, count: u8, z: i64) -> Result<Vec<[V3; 3]>, AllocError>
-    requires size { unsigned_abs size ≤ 601 }
-    requires height { unsigned_abs z ≤ 601 }
+fn facets(alloc: Global, corners: u8, z: i64) -> Result<Vec<[V3; 3]>, AllocError>
+    requires { unsigned_abs z ≤ 601 }
 {
-    let corners = polygon(alloc, size, count)?;
-    let top = V3 {
-        z,
-        ..inside(size, count)
-    };
-    let bottom = V3 { z: -z, ..top };
+    let y = i64::from(corners);
+    let (top, bottom) = (V3 { x: 0, y, z }, V3 { x: 0, y, z: -z });
+    let corners = polygon(alloc, corners)?;
     let mut facets = Vec::new(alloc);
     let Some(&last) = corners.last() else {
         return Ok(facets);
@@ -93,35 +85,16 @@ fn facets(alloc: Global, size: i64, count: u8, z: i64) -> Result<Vec<[V3; 3]>, A
     Ok(facets)
 }
 
-// Corners of a convex polygon on a parabola.
-fn polygon(alloc: Global, size: i64, count: u8) -> Result<Vec<V3>, AllocError>
-    requires { unsigned_abs size ≤ 601 }
-{
+// Corners of a convex polygon on the parabola y = x * x; with n corners, n at least 3, (0, n) is inside.
+fn polygon(alloc: Global, count: u8) -> Result<Vec<V3>, AllocError> {
     let mut corners = Vec::new(alloc);
     for i in 0..count {
-        corners.push(corner(size, 2 * i64::from(i) - i64::from(count) + 1))?;
+        let x = 2 * i64::from(i) - i64::from(count) + 1;
+        corners.push(V3 {
+            x,
+            y: square(x),
+            z: 0,
+        })?;
     }
     Ok(corners)
-}
-
-fn corner(size: i64, x: i64) -> V3
-    requires size { unsigned_abs size ≤ 601 }
-    requires x { unsigned_abs x ≤ 600 }
-{
-    V3 {
-        x: size * x,
-        y: size * square(x),
-        z: 0,
-    }
-}
-
-// A point inside such a polygon.
-fn inside(size: i64, count: u8) -> V3
-    requires { unsigned_abs size ≤ 601 }
-{
-    V3 {
-        x: 0,
-        y: size * i64::from(count),
-        z: 0,
-    }
 }

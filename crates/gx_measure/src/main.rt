@@ -33,28 +33,29 @@ fn measured(alloc: Global, words: &[String]) -> Option<String> {
     match (what.as_str(), words) {
         ("hulls", [count, vertices]) => {
             let (count, vertices) = (count.parse().ok()?, vertices.parse().ok()?);
-            let faces = hulls::faces(alloc, &mut random, count, vertices);
+            let faces = hulls::faces(alloc, &mut random, count, vertices)?;
             format!(in alloc; "{count} hulls of {vertices} vertices, {faces} faces").ok()
         }
         ("pairs", [count, vertices]) => {
             let (count, vertices) = (count.parse().ok()?, vertices.parse().ok()?);
-            let planes = hulls::planes(alloc, &mut random, count, vertices);
+            let planes = hulls::planes(alloc, &mut random, count, vertices)?;
             format!(in alloc;
                 "the pairs of {count} hulls of {vertices} vertices, {planes} planes"
             ).ok()
         }
-        ("solids", [kind, count, vertices]) => {
+        ("solids", [word, count, vertices]) => {
+            let kind = kind_of(word.as_str())?;
             let (count, vertices) = (count.parse().ok()?, vertices.parse().ok()?);
-            let faces = solids::faces(alloc, &mut random, kind_of(kind.as_str())?, count, vertices);
+            let faces = solids::faces(alloc, &mut random, kind, count, vertices)?;
             format!(in alloc;
-                "{count} solids of kind {kind} with {vertices} vertices, {faces} faces"
+                "{count} solids of kind {word} with {vertices} vertices, {faces} faces"
             ).ok()
         }
-        ("hostile", [kind, count]) => {
+        ("hostile", [word, count]) => {
+            let kind = kind_of(word.as_str())?;
             let count = count.parse().ok()?;
-            let fault = solids::fault(alloc, &mut random, kind_of(kind.as_str())?, count)?;
-            let fault = fault_text(fault);
-            format!(in alloc; "{count} hostile lists of kind {kind}, {fault}").ok()
+            let fault = fault_text(solids::fault(alloc, &mut random, kind, count)?);
+            format!(in alloc; "{count} hostile lists of kind {word}, {fault}").ok()
         }
         _ => None,
     }

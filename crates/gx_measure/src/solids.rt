@@ -9,16 +9,20 @@ use gx_table::FaultName;
 use std::alloc::Global;
 
 /// The faces of so many solids.
-pub fn faces(alloc: Global, random: &mut Random, kind: SolidKind, count: u64, vertices: u8) -> u64 {
+pub fn faces(
+    alloc: Global,
+    random: &mut Random,
+    kind: SolidKind,
+    count: u64,
+    vertices: u8,
+) -> Option<u64> {
     let mut faces = 0u64;
     for _ in 0..count {
-        if let Ok(values) = accepted(alloc, random, kind, vertices) {
-            if let Ok(solid) = judged(alloc, kind, &values) {
-                faces = faces.saturating_add(solid.hull().faces().len() as u64);
-            }
-        }
+        let values = accepted(alloc, random, kind, vertices).ok()?;
+        let solid = judged(alloc, kind, &values).ok()?;
+        faces = faces.saturating_add(solid.hull().faces().len() as u64);
     }
-    faces
+    Some(faces)
 }
 
 /// The fault of a list that is judged so many times, and that the last test of its kind refuses.
@@ -37,7 +41,7 @@ pub fn fault(alloc: Global, random: &mut Random, kind: SolidKind, count: u64) ->
     fault
 }
 
-// The longest list of values that is judged.
+// No list here is longer.
 const MAX_VALUES: usize = 65536;
 
 fn judged(alloc: Global, kind: SolidKind, values: &[i64]) -> Result<Solid, SolidFault> {
