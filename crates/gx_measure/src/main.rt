@@ -1,13 +1,15 @@
-//! Measures hulls and the planes between them. The words are `hulls` or `pairs`, a count and a number of vertices.
-//! The vertices lie on a paraboloid, so that each is one of the hull.
+//! Measures hulls, the planes between them, and solids of lists of values. The words are `hulls COUNT VERTICES`,
+//! `pairs COUNT VERTICES`, `solids KIND COUNT VERTICES`, or `hostile KIND COUNT` for a list that the last test refuses.
 #![tactic(auto)]
 
-ghost use Rattle.std.specs.Prelude.{◌≤◌, unsigned_abs, All, IsTrue};
-ghost use Rattle.gx_num.specs.Vector.{IsWithin};
+mod hulls;
+mod lists;
+mod random;
+mod solids;
 
-use gx_hull::Hull;
-use gx_num::V3;
-use gx_plane::first_triple_between;
+use gx_shapes::SolidKind;
+use gx_table::fault_text;
+use random::Random;
 use std::alloc::Global;
 use std::{env, io};
 
@@ -16,130 +18,56 @@ fn main(rt: HostRuntime) -> io::Result<()> {
     for word in env::args(&rt)?.skip(1) {
         words.push(word)?;
     }
-    let [what, count, vertices] = words.as_slice() else {
-        return Ok(());
-    };
-    let (Ok(count), Ok(vertices)) = (count.parse::<u64>(), vertices.parse::<usize>()) else {
-        return Ok(());
-    };
-    let mut random = Random {
-        state: 88172645463325252,
-    };
-    if what.as_str() == "hulls" {
-        let faces = faces(rt.alloc(), &mut random, count, vertices);
-        println!(rt; "{count} hulls of {vertices} vertices, {faces} faces")?;
-    } else {
-        let planes = planes(rt.alloc(), &mut random, count, vertices);
-        println!(rt; "the pairs of {count} hulls of {vertices} vertices, {planes} planes")?;
+    if let Some(line) = measured(rt.alloc(), &words) {
+        println!(rt; "{line}")?;
     }
     Ok(())
 }
 
-// The faces of so many hulls.
-fn faces(alloc: Global, random: &mut Random, count: u64, vertices: usize) -> u64 {
-    let mut faces = 0u64;
-    for _ in 0..count {
-        if let Some(hull) = hull(alloc, random, vertices) {
-            faces = faces.saturating_add(hull.faces().len() as u64);
-        }
-    }
-    faces
-}
-
-// How many pairs of so many hulls have a plane between them.
-fn planes(alloc: Global, random: &mut Random, count: u64, vertices: usize) -> u64 {
-    let mut hulls = Vec::new(alloc);
-    for _ in 0..count {
-        if let Some(hull) = hull(alloc, random, vertices) {
-            if hulls.push(hull).is_err() {
-                return 0;
-            }
-        }
-    }
-    let mut planes = 0u64;
-    for (i, a) in hulls.iter().enumerate() {
-        for b in &hulls[i + 1..] {
-            if first_triple_between(a.vertices(), b.vertices()).is_some() {
-                planes = planes.saturating_add(1);
-            }
-        }
-    }
-    planes
-}
-
-// A hull of points on a paraboloid that stands somewhere.
-fn hull(alloc: Global, random: &mut Random, vertices: usize) -> Option<Hull> {
-    let foot = V3 {
-        x: random.number(),
-        y: random.number(),
-        z: random.number(),
-    };
-    let mut points = Vec::new(alloc);
-    for _ in 0..vertices {
-        let x = random.number();
-        let y = random.number();
-        points.push(point(foot, x, y)).ok()?;
-    }
-    if !are_within(&points) {
+// What the words ask for, in a line.
+fn measured(alloc: Global, words: &[String]) -> Option<String> {
+    let mut random = Random::new();
+    let [what, words @ ..] = words else {
         return None;
+    };
+    match (what.as_str(), words) {
+        ("hulls", [count, vertices]) => {
+            let (count, vertices) = (count.parse().ok()?, vertices.parse().ok()?);
+            let faces = hulls::faces(alloc, &mut random, count, vertices)?;
+            format!(in alloc; "{count} hulls of {vertices} vertices, {faces} faces").ok()
+        }
+        ("pairs", [count, vertices]) => {
+            let (count, vertices) = (count.parse().ok()?, vertices.parse().ok()?);
+            let planes = hulls::planes(alloc, &mut random, count, vertices)?;
+            format!(in alloc;
+                "the pairs of {count} hulls of {vertices} vertices, {planes} planes"
+            ).ok()
+        }
+        ("solids", [word, count, vertices]) => {
+            let kind = kind_of(word.as_str())?;
+            let (count, vertices) = (count.parse().ok()?, vertices.parse().ok()?);
+            let faces = solids::faces(alloc, &mut random, kind, count, vertices)?;
+            format!(in alloc;
+                "{count} solids of kind {word} with {vertices} vertices, {faces} faces"
+            ).ok()
+        }
+        ("hostile", [word, count]) => {
+            let kind = kind_of(word.as_str())?;
+            let count = count.parse().ok()?;
+            let fault = fault_text(solids::fault(alloc, &mut random, kind, count)?);
+            format!(in alloc; "{count} hostile lists of kind {word}, {fault}").ok()
+        }
+        _ => None,
     }
-    Hull::new(alloc, points).ok()
 }
 
-fn point(foot: V3, x: i64, y: i64) -> V3
-    requires foot { IsWithin 300 foot }
-    requires x { unsigned_abs x ≤ 300 }
-    requires y { unsigned_abs y ≤ 300 }
-{
-    V3 {
-        x: foot.x + x,
-        y: foot.y + y,
-        z: foot.z + square(x) + square(y),
-    }
-}
-
-fn square(x: i64) -> i64
-    requires { unsigned_abs x ≤ 300 }
-    ensures { unsigned_abs result ≤ 90000 }
-{
-    x * x
-}
-
-const REACH: i64 = 200000;
-
-fn are_within(points: &[V3]) -> bool
-    ensures { IsTrue result → All (IsWithin 200000) points.now }
-{
-    points.iter().all(|&p| is_within(p))
-}
-
-fn is_within(p: V3) -> bool
-    ensures { IsTrue result → IsWithin 200000 p }
-{
-    is_small(p.x) && is_small(p.y) && is_small(p.z)
-}
-
-fn is_small(x: i64) -> bool
-    ensures { IsTrue result → unsigned_abs x ≤ 200000 }
-{
-    -REACH <= x && x <= REACH
-}
-
-// Numbers from -300 to 300 by a shift register.
-#[derive(Drop)]
-struct Random {
-    state: u64,
-}
-
-impl Random {
-    fn number(&mut self) -> i64
-        ensures { unsigned_abs result ≤ 300 }
-    {
-        let mut x = self.state;
-        x ^= x.wrapping_shl(13);
-        x ^= x.wrapping_shr(7);
-        x ^= x.wrapping_shl(17);
-        self.state = x;
-        (x % 601) as i64 - 300
+fn kind_of(word: &str) -> Option<SolidKind> {
+    match word {
+        "box" => Some(SolidKind::Cuboid),
+        "trd" => Some(SolidKind::Trd),
+        "tet" => Some(SolidKind::Tet),
+        "extruded" => Some(SolidKind::Extruded),
+        "tessellated" => Some(SolidKind::Tessellated),
+        _ => None,
     }
 }
