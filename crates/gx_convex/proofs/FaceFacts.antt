@@ -67,7 +67,7 @@ proper_ways t (Some k) e =
     All-cons (λ h. is_zero h.n ≡ false) k (flipped k ∷ []) (not_zero-divisor_of k.n (omega arith))
     (All-cons (λ h. is_zero h.n ≡ false) (flipped k) [] (not_zero-divisor_of (flipped k).n (omega (arith, divisor_of-opposite k.n))) (All-nil (λ h. is_zero h.n ≡ false)))
 
-proper_candidates : (points : List V3) → All (λ h. is_zero h.n ≡ false) (candidates points)
+pub proper_candidates : (points : List V3) → All (λ h. is_zero h.n ≡ false) (candidates points)
 proper_candidates points = over (triples_of points)
   where
     over : (ts : List (V3 × V3 × V3)) → All (λ h. is_zero h.n ≡ false) (flat_map (λ t. both_ways (plane_through t.0 t.1 t.2)) ts)

@@ -46,10 +46,10 @@ plane_through-twice p r = ap (λ (n : V3). plane_with n p) (nothing p r)
 
 -- ---- three points of a list
 -- equal points, or a pair of the list in one order or the other
-abbrev AreAPair : List V3 → V3 → V3 → Type 0
+abbrev pub AreAPair : List V3 → V3 → V3 → Type 0
 AreAPair points q r = (q ≡ r) ⊎ (Contains (pairs_of points) (q, r) ⊎ Contains (pairs_of points) (r, q))
 
-AreAPair-any : (points : List V3) (q r : V3) → Contains points q → Contains points r → AreAPair points q r
+pub AreAPair-any : (points : List V3) (q r : V3) → Contains points q → Contains points r → AreAPair points q r
 AreAPair-any [] q r in_q in_r = absurd (omega (arith, in_q.1))
 AreAPair-any (s ∷ points) q r in_q in_r =
     go (Contains-cases s points q in_q) (Contains-cases s points r in_r) (AreAPair-any points q r)

@@ -165,7 +165,7 @@ found_alone c =
     (λ lt. inl (record { by = opposite4 c; above = All-nil (λ m. pos 0 ≤ℤ dot4 m (opposite4 c)); below = omega (arith, ints, dot4-opposite4 c c) }))
     (λ le. inr (record { multiple = 1; positive = omega arith; multiples = []; one_each = refl; sum = times4-one c ∙ dot4-self_zero c le }))
 
-times4-zero_plus : (g v : Vec4) → plus4 (times4 (pos 0) g) v ≡ v
+pub times4-zero_plus : (g v : Vec4) → plus4 (times4 (pos 0) g) v ≡ v
 times4-zero_plus = identity4 (vector4 ∷ vector4 ∷ []) (λ g v. term.plus4 (term.times4 none g) v ≣⁴ v) tt
 
 IsInCone-more : (g : Vec4) (members : List Vec4) (c : Vec4) → IsInCone members c → IsInCone (g ∷ members) c

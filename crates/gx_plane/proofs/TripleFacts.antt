@@ -24,7 +24,7 @@ triples_left-second p s q thirds seconds qs firsts ts none is e = sym parts ∙ 
     parts = simp (map-append, map-map, append_assoc)
 
 -- ---- what holds of all points holds of those of each triple
-All-pairs_of : (P : V3 → Type 0) (points : List V3) → All P points → All (λ t. P t.0 × P t.1) (pairs_of points)
+pub All-pairs_of : (P : V3 → Type 0) (points : List V3) → All P points → All (λ t. P t.0 × P t.1) (pairs_of points)
 All-pairs_of P [] h = All-nil (λ t. P t.0 × P t.1)
 All-pairs_of P (q ∷ qs) h =
     let first : P q = All-head P q qs h in

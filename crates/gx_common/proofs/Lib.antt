@@ -1,0 +1,8 @@
+pub mod Alternatives
+mod Apart
+mod Corners
+mod Inside
+mod Lists
+mod Mixes
+mod Reached
+mod Taken

@@ -1,0 +1,4 @@
+//! The points that two solids have in common.
+#![tactic(auto)]
+
+pub mod laws;

@@ -1,0 +1,9 @@
+//! Planes between two solids.
+#![tactic(auto)]
+
+mod boxes;
+mod planes;
+#[cfg(test)]
+mod tests;
+
+pub use planes::plane_between;
