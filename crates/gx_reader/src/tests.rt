@@ -12,49 +12,28 @@ fn millimetre() -> Result<Grid, Fail> {
     Ok(Grid::new(&step).ok_or("a grid")?)
 }
 
-// By hand: 2 cm are 20 steps of 1 mm, 1 m are 1000.
+fn point(x: i64, y: i64, z: i64) -> V3 {
+    V3 { x, y, z }
+}
+
+// By hand: 2 cm are 20 steps of 1 mm, and 1 m is 1000.
 #[test]
 fn a_text_gives_a_world_and_rays(rt: HostRuntime) -> Result<(), Fail> {
     let text =
-        b":P half 2*cm // of the width\n:VOLU world BOX $half 30 16777216 Air\r\n\n\t:RAY -50 0 7 1 0 0\n:RAY 1*m -2 3 $half/5 0 -16777216";
+        b":P half 2*cm // of x\n\n:VOLU hall BOX $half 30 16777216 Air\r\n\t:RAY -50 0 7 1 0 0\n:RAY 1*m -2 3 $half/5 0 -16777216";
     let input = read_text(rt.alloc(), &millimetre()?, text)?;
-    let far = 16777216;
-    let high = V3 {
-        x: 20,
-        y: 30,
-        z: far,
-    };
-    let low = V3 {
-        x: -20,
-        y: -30,
-        z: -far,
-    };
-    assert!(rt; input.tree.name() == b"world".as_slice());
+    assert!(rt; input.tree.name() == b"hall".as_slice());
     assert!(rt; input.tree.material() == b"Air".as_slice());
+    let low = point(-20, -30, -16777216);
+    let high = point(20, 30, 16777216);
     assert_eq!(rt; input.tree.solid().hull().extent(), Extent { low, high });
     assert_eq!(rt; input.rays.count(), 2);
-    assert_eq!(rt;
-        input.rays.ray(0),
-        Ray {
-            o: V3 { x: -50, y: 0, z: 7 },
-            d: V3 { x: 1, y: 0, z: 0 }
-        }
-    );
-    assert_eq!(rt;
-        input.rays.ray(1),
-        Ray {
-            o: V3 {
-                x: 1000,
-                y: -2,
-                z: 3
-            },
-            d: V3 {
-                x: 4,
-                y: 0,
-                z: -far
-            }
-        }
-    );
+    let o = point(-50, 0, 7);
+    let d = point(1, 0, 0);
+    assert_eq!(rt; input.rays.ray(0), Ray { o, d });
+    let o = point(1000, -2, 3);
+    let d = point(4, 0, -16777216);
+    assert_eq!(rt; input.rays.ray(1), Ray { o, d });
     Ok(())
 }
 
