@@ -2,5 +2,7 @@
 #![tactic(auto)]
 
 mod fraction;
+#[cfg(test)]
+mod tests;
 
 pub use fraction::Frac;

@@ -2,5 +2,7 @@
 #![tactic(auto)]
 
 mod param;
+#[cfg(test)]
+mod tests;
 
 pub use param::{linear_at, reaches, square_at};

@@ -73,33 +73,3 @@ fn place_of(offset: i64, step: i64, i: u32) -> i64
 {
     offset + i64::from(i) * step
 }
-
-#[cfg(test)]
-mod tests {
-    use super::*;
-
-    // Worked by hand: copy 3 of rows of two is the second of the second row.
-    #[test]
-    fn copies_are_at_their_steps(rt: HostRuntime) {
-        assert_eq!(rt; linear_at(2, 20, -10, 3), V3 { x: 0, y: 0, z: 50 });
-        assert_eq!(rt;
-            square_at(0, 2, 20, 20, -10, -10, 3),
-            V3 { x: 10, y: 10, z: 0 }
-        );
-        assert_eq!(rt;
-            square_at(1, 2, 20, 30, -10, -10, 3),
-            V3 { x: 10, y: 0, z: 20 }
-        );
-        assert_eq!(rt;
-            square_at(2, 2, 20, 30, -10, -10, 2),
-            V3 {
-                x: 0,
-                y: -10,
-                z: 20
-            }
-        );
-        assert!(rt; reaches(2, M, 0));
-        assert!(rt; !reaches(2, M, 1));
-        assert!(rt; !reaches(3, -M, M - 1));
-    }
-}

@@ -8,6 +8,8 @@ mod judge;
 mod kind;
 mod read;
 mod tag;
+#[cfg(test)]
+mod tests;
 mod word;
 mod world;
 

@@ -2,5 +2,7 @@
 #![tactic(auto)]
 
 mod replica;
+#[cfg(test)]
+mod tests;
 
 pub use replica::{replica_at, replica_fits};

@@ -78,21 +78,3 @@ fn on_axis_at(axis: u8, value: i64) -> V3
         z: if axis == 2 { value } else { 0 },
     }
 }
-
-#[cfg(test)]
-mod tests {
-    use super::*;
-
-    // Five cells of width 4 have their centres at -8, -4, 0, 4 and 8.
-    #[test]
-    fn five_cells_fill_a_mother(rt: HostRuntime) {
-        assert_eq!(rt; replica_at(0, 5, 4, 0), V3 { x: -8, y: 0, z: 0 });
-        assert_eq!(rt; replica_at(1, 5, 4, 2), V3 { x: 0, y: 0, z: 0 });
-        assert_eq!(rt; replica_at(2, 5, 4, 4), V3 { x: 0, y: 0, z: 8 });
-        let mother = V3 { x: 10, y: 7, z: 7 };
-        let cell = V3 { x: 2, y: 7, z: 7 };
-        assert!(rt; replica_fits(mother, cell, 0, 5, 4));
-        assert!(rt; !replica_fits(mother, cell, 0, 4, 4));
-        assert!(rt; !replica_fits(mother, cell, 1, 5, 4));
-    }
-}

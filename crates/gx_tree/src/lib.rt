@@ -2,5 +2,7 @@
 #![tactic(auto)]
 
 mod hierarchy;
+#[cfg(test)]
+mod tests;
 
 pub use hierarchy::Hierarchy;

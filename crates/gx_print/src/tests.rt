@@ -1,0 +1,62 @@
+use crate::{print_fault, print_ray, print_row, print_usage};
+use gx_clip::Span;
+use gx_expr::Grid;
+use gx_fraction::Frac;
+use gx_io::{Failed, MemSink};
+use gx_reader::{TextFault, read_text};
+use gx_table::FaultName;
+use std::test::Fail;
+
+const WORLD: &[u8] = b":VOLU hall BOX 1 1 1 Air";
+
+fn off_grid() -> TextFault {
+    TextFault {
+        line: 20,
+        word: 4,
+        name: FaultName::OffGrid,
+    }
+}
+
+fn whole() -> Span {
+    Span {
+        from: Frac::new(0, 1),
+        to: Frac::new(70, 1),
+    }
+}
+
+fn broken() -> Span {
+    Span {
+        from: Frac::new(1, 2),
+        to: Frac::new(70, 6),
+    }
+}
+
+#[test]
+fn each_line_has_its_bytes(rt: HostRuntime) -> Result<(), Fail> {
+    let alloc = rt.alloc();
+    let input = read_text(alloc, &Grid::tenth(), WORLD)?;
+    let mut sink = MemSink::new(alloc, 200, 3, Vec::new(alloc))?;
+    print_ray(65536, &mut sink)?;
+    print_row(&input.tree, &whole(), &mut sink)?;
+    print_row(&input.tree, &broken(), &mut sink)?;
+    print_fault(&off_grid(), &mut sink)?;
+    print_usage(&mut sink)?;
+    let lines =
+        b"ray 65536\n0 70 hall\n1/2 35/3 hall\nfault 20 4 OffGrid\nusage: g4exact (trace | check [--brief] | list) [--grid=EXPR] | sample N\n";
+    assert!(rt; sink.written() == lines.as_slice());
+    Ok(())
+}
+
+// Its first four writes fail, and it takes no byte.
+#[test]
+fn a_write_that_fails_ends_a_line(rt: HostRuntime) -> Result<(), Fail> {
+    let alloc = rt.alloc();
+    let input = read_text(alloc, &Grid::tenth(), WORLD)?;
+    let mut sink = MemSink::new(alloc, 200, 3, vec![in alloc; 1, 2, 3, 4]?)?;
+    assert_eq!(rt; print_ray(1, &mut sink), Err(Failed));
+    assert_eq!(rt; print_row(&input.tree, &whole(), &mut sink), Err(Failed));
+    assert_eq!(rt; print_fault(&off_grid(), &mut sink), Err(Failed));
+    assert_eq!(rt; print_usage(&mut sink), Err(Failed));
+    assert!(rt; sink.written().is_empty());
+    Ok(())
+}
