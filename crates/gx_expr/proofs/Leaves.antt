@@ -5,10 +5,10 @@ use Rattle.std.specs.List.{prefix_len}
 use Rattle.std.proofs.lemmas.List.{drop-drop}
 use Rattle.std.proofs.lemmas.Bool.{ne_eqb, eqb-true, leb-true, or_cases, and_parts, cases_Bool}
 use Rattle.gx_expr.specs.declared.fault.ExprFault.{ExprFault}
-use Rattle.gx_expr.specs.declared.fault.ExprFault.TheVariants.{UnknownParam, UnknownUnit}
-use Rattle.gx_table.specs.Table.{number_in}
+use Rattle.gx_expr.specs.declared.fault.ExprFault.TheVariants.{UnknownParam}
+use Rattle.gx_expr.specs.Unit.{value_of_unit}
 use Rattle.gx_expr.specs.Descent.{begins, IsSumEnd, IsProductEnd, tree_on, anywhere, IsRead, HasNone}
-use Rattle.gx_expr.specs.Eval.{value_of_leaf, value_of_decimal, found, units, unit_of}
+use Rattle.gx_expr.specs.Eval.{value_of_leaf, value_of_decimal, found}
 use Rattle.gx_expr.specs.Param.{Param, value_of_name}
 use Rattle.gx_expr.specs.Token.{is_name_byte, Leaf, number, name, unit, Token, operand, times, over, closing, Read, run_of, value_of_digits, fraction_at, exponent_at, exponent_from, signed_exponent, decimal_at, begins_decimal, named, token_at}
 use Rattle.gx_expr.specs.Tree.{leaf, Context, tree_from}
@@ -128,7 +128,7 @@ letter-token b s letter sums opening_not dollar_not number_not =
     let other = λ (k : ℕ) (h : k < 65). ne_eqb b k (λ e. absurd (omega arith)) in
     unit-token b s sums (record { times = other 42 (omega arith); over = other 47 (omega arith) }) opening_not (other 41 (omega arith)) dollar_not number_not
 
-pub unit_read : (open_count : ℕ) (params : List Param) (s what new : List ℕ) (value : Result Quantity ExprFault) → IsSumEnd s → begins 40 s ≡ false → begins 36 s ≡ false → begins_decimal s ≡ false → what ≡ (run_of is_ascii_alphabetic s).what → new ≡ (run_of is_ascii_alphabetic s).rest → length what == 0 ≡ false → value ≡ found UnknownUnit unit_of (number_in units what) → IsRead anywhere open_count params s value new
+pub unit_read : (open_count : ℕ) (params : List Param) (s what new : List ℕ) (value : Result Quantity ExprFault) → IsSumEnd s → begins 40 s ≡ false → begins 36 s ≡ false → begins_decimal s ≡ false → what ≡ (run_of is_ascii_alphabetic s).what → new ≡ (run_of is_ascii_alphabetic s).rest → length what == 0 ≡ false → value ≡ value_of_unit what → IsRead anywhere open_count params s value new
 unit_read open_count params [] what new value sums opening_not dollar_not number_not e rest some gives = let wrong = rw e at some in cc
 unit_read open_count params (b ∷ s) what new value sums opening_not dollar_not number_not e rest some gives =
     let word = run_of is_ascii_alphabetic (b ∷ s) in
