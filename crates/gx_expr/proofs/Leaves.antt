@@ -7,10 +7,11 @@ use Rattle.std.proofs.lemmas.Bool.{ne_eqb, eqb-true, leb-true, or_cases, and_par
 use Rattle.gx_expr.specs.declared.fault.ExprFault.{ExprFault}
 use Rattle.gx_expr.specs.declared.fault.ExprFault.TheVariants.{UnknownParam}
 use Rattle.gx_expr.specs.Unit.{value_of_unit}
+use Rattle.gx_expr.specs.declared.operator.ProductSign.TheVariants.{Times, Over}
 use Rattle.gx_expr.specs.Descent.{begins, IsSumEnd, IsProductEnd, tree_on, anywhere, IsRead, HasNone}
 use Rattle.gx_expr.specs.Eval.{value_of_leaf, value_of_decimal, found}
 use Rattle.gx_expr.specs.Param.{Param, value_of_name}
-use Rattle.gx_expr.specs.Token.{is_name_byte, Leaf, number, name, unit, Token, operand, times, over, closing, Read, run_of, value_of_digits, fraction_at, exponent_at, exponent_from, signed_exponent, decimal_at, begins_decimal, named, token_at}
+use Rattle.gx_expr.specs.Token.{is_name_byte, Leaf, number, name, unit, Token, operand, product_sign, closing, Read, run_of, value_of_digits, fraction_at, exponent_at, exponent_from, signed_exponent, decimal_at, begins_decimal, named, token_at}
 use Rattle.gx_expr.specs.Tree.{leaf, Context, tree_from}
 use Rattle.std.specs.Char.{is_ascii_digit, is_ascii_alphabetic}
 use Rattle.gx_expr.specs.Quantity.{Quantity}
@@ -148,9 +149,9 @@ unit_none open_count [] what sums opening_not dollar_not number_not e none = rec
 unit_none open_count (b ∷ s) what sums opening_not dollar_not number_not e none =
     record {
       front = λ outer here same. elim (cases_Bool (b == 42)) [
-        | inl e ↦ none-byte outer here times b 42 s e refl (λ ps. refl)
+        | inl e ↦ none-byte outer here (product_sign Times) b 42 s e refl (λ ps. refl)
         | inr times_not ↦ elim (cases_Bool (b == 47)) [
-          | inl e ↦ none-byte outer here over b 47 s e refl (λ ps. refl)
+          | inl e ↦ none-byte outer here (product_sign Over) b 47 s e refl (λ ps. refl)
           | inr over_not ↦ elim (cases_Bool (b == 41)) [
             | inl e ↦ none-byte outer here closing b 41 s e refl (λ ps. refl)
             | inr closing_not ↦

@@ -7,7 +7,7 @@ use Rattle.std.proofs.lemmas.Bool.{and_parts, cases_Bool, eqb-true, eqb-false, l
 use Rattle.std.proofs.lemmas.Int.{ints}
 use Rattle.std.proofs.lemmas.List.{take_all, drop_all}
 use Rattle.std.proofs.lemmas.Option.{none-some}
-use Rattle.gx_expr.specs.declared.operator.Operator.TheVariants.{Minus}
+use Rattle.gx_expr.specs.declared.operator.SumSign.TheVariants.{Minus}
 use Rattle.gx_expr.specs.Descent.{signed, IsSigned}
 use Rattle.gx_expr.specs.Digits.{few_digits, plain_number}
 use Rattle.gx_expr.specs.Eval.{zeros_before, zeros_after, trimmed, front_of, if_short, value_of_decimal, value_of_word}

@@ -7,8 +7,9 @@ use Rattle.std.proofs.lemmas.List.{get_or-take}
 use Rattle.std.proofs.lemmas.List.Folds.{length-prefix_len}
 use Rattle.std.proofs.lemmas.List.Sums.{prefix_len_passes}
 use Rattle.std.specs.Prelude.{if◌then◌else◌}
-use Rattle.gx_expr.specs.Token.{Leaf, Token, operand, plus, minus, times, over, opening, closing, Read, named, token_at, in_front, onto, tokens_from, tokens_of, is_name_byte, run_of, name, unit, begins_decimal}
+use Rattle.gx_expr.specs.Token.{Leaf, Token, operand, sum_sign, product_sign, opening, closing, Read, named, token_at, in_front, onto, tokens_from, tokens_of, is_name_byte, run_of, name, unit, begins_decimal}
 use Rattle.std.specs.Char.{is_ascii_alphabetic}
+use Rattle.gx_expr.specs.Descent.{sum_byte, product_byte}
 
 pub run_all : (test : ℕ → Bool) (s : List ℕ) (k : ℕ) → k < length (take (prefix_len test s) s) → test (get_or (take (prefix_len test s) s) k 0) ≡ true
 run_all test s k h =
@@ -39,10 +40,8 @@ tokens_of-none b s e = ap (λ o. onto o (λ rest. tokens_from (length s - length
 -- the byte that an operator or a parenthesis is
 abbrev pub IsOf : ℕ → Token → Type 0
 IsOf b (operand l) = Unit {0}
-IsOf b plus = b ≡ 43
-IsOf b minus = b ≡ 45
-IsOf b times = b ≡ 42
-IsOf b over = b ≡ 47
+IsOf b (sum_sign sign) = b ≡ sum_byte sign
+IsOf b (product_sign sign) = b ≡ product_byte sign
 IsOf b opening = b ≡ 40
 IsOf b closing = b ≡ 41
 

@@ -7,7 +7,11 @@ use Rattle.gx_expr.specs.declared.fault.ExprFault.{ExprFault}
 use Rattle.gx_expr.specs.declared.fault.ExprFault.TheVariants.{Syntax, UnknownParam, TooWide}
 use Rattle.gx_expr.specs.Param.{Param, value_of_name}
 use Rattle.gx_expr.specs.Token.{Decimal, value_of_digits, Leaf, number, name, unit}
-use Rattle.gx_expr.specs.Tree.{Tree, leaf, opposite, sum, difference, product, quotient, tree_of}
+use Rattle.gx_expr.specs.Tree.{Tree, leaf, opposite, sum, product, tree_of}
+use Rattle.gx_expr.specs.declared.operator.SumSign.{SumSign}
+use Rattle.gx_expr.specs.declared.operator.SumSign.TheVariants.{Plus, Minus}
+use Rattle.gx_expr.specs.declared.operator.ProductSign.{ProductSign}
+use Rattle.gx_expr.specs.declared.operator.ProductSign.TheVariants.{Times, Over}
 use Rattle.gx_expr.specs.Quantity.{Quantity, ratio, sum_of, difference_of, product_of, quotient_of, opposite_of}
 
 -- ---- numbers
@@ -56,6 +60,14 @@ of_two operation (Err fault) b = Err fault
 of_two operation (Ok a) (Err fault) = Err fault
 of_two operation (Ok a) (Ok b) = operation a b
 
+abbrev pub sum_operation : SumSign → Quantity → Quantity → Result Quantity ExprFault
+sum_operation Plus = sum_of
+sum_operation Minus = difference_of
+
+abbrev pub product_operation : ProductSign → Quantity → Quantity → Result Quantity ExprFault
+product_operation Times = product_of
+product_operation Over = quotient_of
+
 abbrev pub value_of_leaf : List Param → Leaf → Result Quantity ExprFault
 value_of_leaf params (number d) = value_of_decimal d
 value_of_leaf params (name n) = found UnknownParam (λ w. w) (value_of_name params n)
@@ -64,10 +76,8 @@ value_of_leaf params (unit u) = value_of_unit u
 abbrev pub value_of : List Param → Tree → Result Quantity ExprFault
 value_of params (leaf l) = value_of_leaf params l
 value_of params (opposite a) = of_one opposite_of (value_of params a)
-value_of params (sum a b) = of_two sum_of (value_of params a) (value_of params b)
-value_of params (difference a b) = of_two difference_of (value_of params a) (value_of params b)
-value_of params (product a b) = of_two product_of (value_of params a) (value_of params b)
-value_of params (quotient a b) = of_two quotient_of (value_of params a) (value_of params b)
+value_of params (sum sign a b) = of_two (sum_operation sign) (value_of params a) (value_of params b)
+value_of params (product sign a b) = of_two (product_operation sign) (value_of params a) (value_of params b)
 
 abbrev pub value_of_tree : List Param → Option Tree → Result Quantity ExprFault
 value_of_tree params None = Err Syntax

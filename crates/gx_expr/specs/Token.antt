@@ -5,6 +5,10 @@
 use Rattle.std.specs.Prelude.{ℕ, suc, zero, ◌+◌, ◌-◌, ◌*◌, ℤ, pos, neg_ℤ, ◌-ℤ◌, Bool, ◌==◌, ◌&&◌, ◌||◌, false, if◌then◌else◌, List, [], ◌∷◌, ◌++◌, length, take, drop, fold, Option, None, Some}
 use Rattle.std.specs.Char.{is_ascii_digit, is_ascii_alphabetic}
 use Rattle.std.specs.List.{prefix_len}
+use Rattle.gx_expr.specs.declared.operator.SumSign.{SumSign}
+use Rattle.gx_expr.specs.declared.operator.SumSign.TheVariants.{Plus, Minus}
+use Rattle.gx_expr.specs.declared.operator.ProductSign.{ProductSign}
+use Rattle.gx_expr.specs.declared.operator.ProductSign.TheVariants.{Times, Over}
 
 -- a letter, a digit or `_`
 abbrev pub is_name_byte : ℕ → Bool
@@ -79,10 +83,8 @@ begins_decimal (b ∷ c ∷ s) = is_ascii_digit b || (b == 46 && is_ascii_digit 
 
 pub data Token : Type 0 where
   operand : Leaf → Token
-  plus : Token
-  minus : Token
-  times : Token
-  over : Token
+  sum_sign : SumSign → Token
+  product_sign : ProductSign → Token
   opening : Token
   closing : Token
 
@@ -96,10 +98,10 @@ one token s = Some (record { what = token; rest = s })
 abbrev pub token_at : List ℕ → Option (Read Token)
 token_at [] = None
 token_at (b ∷ s) =
-    if b == 43 then one plus s
-    else if b == 45 then one minus s
-    else if b == 42 then one times s
-    else if b == 47 then one over s
+    if b == 43 then one (sum_sign Plus) s
+    else if b == 45 then one (sum_sign Minus) s
+    else if b == 42 then one (product_sign Times) s
+    else if b == 47 then one (product_sign Over) s
     else if b == 40 then one opening s
     else if b == 41 then one closing s
     else if b == 36 then named name (run_of is_name_byte s)
