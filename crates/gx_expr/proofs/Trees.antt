@@ -6,7 +6,7 @@ use Rattle.gx_expr.specs.declared.operator.SumSign.TheVariants.{Plus, Minus}
 use Rattle.gx_expr.specs.declared.operator.ProductSign.{ProductSign}
 use Rattle.gx_expr.specs.declared.operator.ProductSign.TheVariants.{Times, Over}
 use Rattle.gx_expr.specs.Descent.{begins, sum_byte, product_byte, IsSumEnd, IsProductEnd, tree_after, tree_on, after}
-use Rattle.gx_expr.specs.Token.{Leaf, Token, operand, sum_sign, product_sign, opening, closing, in_front, token_at, onto, tokens_from, tokens_of, Read}
+use Rattle.gx_expr.specs.Token.{Leaf, Token, operand, sum_sign, product_sign, opening, closing, in_front, token_at, onto, tokens_from, tokens_of, Part}
 use Rattle.gx_expr.specs.Tree.{Tree, leaf, Context, first, term_of, whole_of, next_term, next_factor, with_sign, signed_by, tree_from}
 use Rattle.gx_expr.proofs.Tokens.{tokens_of-step, tokens_of-none, IsAt, IsOf, token_at-IsAt}
 
@@ -84,15 +84,15 @@ product_not b s end Times = eqb-false b 42 end.times
 product_not b s end Over = eqb-false b 47 end.over
 
 -- an expression has ended, and neither does its level nor the word
-module _ (here : Context) (t : Tree) (f : List ℕ → Option (List Token)) (b : ℕ) (s : List ℕ) (sums : IsSumEnd (b ∷ s)) (products : IsProductEnd (b ∷ s)) where
-  never-ended : (outer : List Context) → ((ps : List Token) → b ≡ 41 → tree_from outer here (Some t) (closing ∷ ps) ≡ None) → (o : Option (Read Token)) → IsAt b o → tree_after outer here (Some t) (onto o f) ≡ None
+module _ (here : Context) (t : Tree) (f : ℕ → Option (List Token)) (b : ℕ) (s : List ℕ) (sums : IsSumEnd (b ∷ s)) (products : IsProductEnd (b ∷ s)) where
+  never-ended : (outer : List Context) → ((ps : List Token) → b ≡ 41 → tree_from outer here (Some t) (closing ∷ ps) ≡ None) → (o : Option (Part Token)) → IsAt b o → tree_after outer here (Some t) (onto o f) ≡ None
   never-ended outer h None k = refl
-  never-ended outer h (Some read) k = elim read.what as (λ p. IsOf b p → tree_after outer here (Some t) (in_front p (f read.rest)) ≡ None) [
-    | operand u ↦ λ k. never outer here (Some t) (operand u) (λ ps. refl) (f read.rest)
+  never-ended outer h (Some part) k = elim part.what as (λ p. IsOf b p → tree_after outer here (Some t) (in_front p (f part.size)) ≡ None) [
+    | operand u ↦ λ k. never outer here (Some t) (operand u) (λ ps. refl) (f part.size)
     | sum_sign sign ↦ λ k. absurd (sum_not b s sums sign k)
     | product_sign sign ↦ λ k. absurd (product_not b s products sign k)
-    | opening ↦ λ k. never outer here (Some t) opening (λ ps. refl) (f read.rest)
-    | closing ↦ λ k. never outer here (Some t) closing (λ ps. h ps k) (f read.rest)
+    | opening ↦ λ k. never outer here (Some t) opening (λ ps. refl) (f part.size)
+    | closing ↦ λ k. never outer here (Some t) closing (λ ps. h ps k) (f part.size)
   ] k
 
 -- where only leaves, parentheses and nothing may follow, no tree ends
@@ -100,12 +100,12 @@ pub none-inside : (outer : List Context) (here around : Context) (t : Tree) (s :
 unfolding tree_on
 none-inside outer here around t [] sums products closing_not = refl
 none-inside outer here around t (b ∷ s) sums products closing_not =
-    never-ended here t (λ rest. tokens_from (length s - length rest) s) b s sums products (around ∷ outer) (λ ps e. absurd (eqb-false b 41 closing_not e)) (token_at (b ∷ s)) (token_at-IsAt b s)
+    never-ended here t (λ size. tokens_from (size - 1) s) b s sums products (around ∷ outer) (λ ps e. absurd (eqb-false b 41 closing_not e)) (token_at (b ∷ s)) (token_at-IsAt b s)
 
 pub none-outside : (here : Context) (t : Tree) (b : ℕ) (s : List ℕ) → IsSumEnd (b ∷ s) → IsProductEnd (b ∷ s) → tree_on [] here (Some t) (b ∷ s) ≡ None
 unfolding tree_on
 none-outside here t b s sums products =
-    never-ended here t (λ rest. tokens_from (length s - length rest) s) b s sums products [] (λ ps e. refl) (token_at (b ∷ s)) (token_at-IsAt b s)
+    never-ended here t (λ size. tokens_from (size - 1) s) b s sums products [] (λ ps e. refl) (token_at (b ∷ s)) (token_at-IsAt b s)
 
 -- ---- places that are one
 
@@ -164,14 +164,14 @@ module _ (b : ℕ) (s : List ℕ) (end : IsProductEnd (b ∷ s)) where
   one_sum_after outer before t p None k = refl
   one_sum_after outer before t p (Some ps) k = one_sum outer before t (p ∷ ps) (ends_term p ps k)
 
-  one_sum_read : (outer : List Context) (before : Tree → Tree) (t : Tree) (f : List ℕ → Option (List Token)) (o : Option (Read Token)) → IsAt b o → tree_after outer (after before) (Some t) (onto o f) ≡ tree_after outer first (Some (before t)) (onto o f)
+  one_sum_read : (outer : List Context) (before : Tree → Tree) (t : Tree) (f : ℕ → Option (List Token)) (o : Option (Part Token)) → IsAt b o → tree_after outer (after before) (Some t) (onto o f) ≡ tree_after outer first (Some (before t)) (onto o f)
   one_sum_read outer before t f None k = refl
-  one_sum_read outer before t f (Some read) k = one_sum_after outer before t read.what (f read.rest) k
+  one_sum_read outer before t f (Some part) k = one_sum_after outer before t part.what (f part.size) k
 
 pub on-sum : (outer : List Context) (before : Tree → Tree) (t : Tree) (s : List ℕ) → IsProductEnd s → tree_on outer (after before) (Some t) s ≡ tree_on outer first (Some (before t)) s
 unfolding tree_on
 on-sum outer before t [] end = one_sum outer before t [] tt
-on-sum outer before t (b ∷ s) end = one_sum_read b s end outer before t (λ rest. tokens_from (length s - length rest) s) (token_at (b ∷ s)) (token_at-IsAt b s)
+on-sum outer before t (b ∷ s) end = one_sum_read b s end outer before t (λ size. tokens_from (size - 1) s) (token_at (b ∷ s)) (token_at-IsAt b s)
 
 -- nothing follows
 pub on-end : (t : Tree) → tree_on [] first (Some t) [] ≡ Some t
