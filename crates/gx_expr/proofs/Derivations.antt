@@ -3,10 +3,12 @@ use Rattle.std.proofs.Common.{◌≡◌, ◌<◌, ℕ, suc, true, List, [], ◌�
 use Rattle.std.specs.Prelude.{◌↔◌}
 use Rattle.std.proofs.lemmas.Bool.{cases_Bool, ltb-true, lt-ltb}
 use Rattle.std.proofs.lemmas.Option.{none-some}
+use Rattle.gx_expr.specs.declared.operator.SumSign.{SumSign}
+use Rattle.gx_expr.specs.declared.operator.ProductSign.{ProductSign}
 use Rattle.gx_expr.specs.Descent.{after}
-use Rattle.gx_expr.specs.Grammar.{IsExpr, term, plus_term, minus_term, IsTerm, factor, times_factor, over_factor, IsFactor, primary, plus_sign, minus_sign, IsPrimary, alone, parentheses, Derives}
-use Rattle.gx_expr.specs.Token.{Token, operand, plus, minus, times, over, opening, closing, tokens_of}
-use Rattle.gx_expr.specs.Tree.{Tree, leaf, opposite, sum, difference, product, quotient, max_open, Context, same, first, term_of, whole_of, next_term, next_factor, negated, tree_from, tree_of_tokens, tree_of}
+use Rattle.gx_expr.specs.Grammar.{IsExpr, term, more_terms, IsTerm, factor, more_factors, IsFactor, primary, more_signs, IsPrimary, alone, parentheses, Derives}
+use Rattle.gx_expr.specs.Token.{Token, operand, sum_sign, product_sign, opening, closing, tokens_of}
+use Rattle.gx_expr.specs.Tree.{Tree, leaf, sum, with_sign, max_open, Context, same, first, signed_by, term_of, whole_of, next_term, next_factor, tree_from, tree_of_tokens, tree_of}
 use Rattle.gx_expr.proofs.Trees.{one_term, EndsTerm, one_sum}
 
 -- ---- what is derived is read
@@ -14,24 +16,20 @@ use Rattle.gx_expr.proofs.Trees.{one_term, EndsTerm, one_sum}
 mutual
   expr-read : {n : ℕ} {ps : List Token} {t : Tree} → IsExpr n ps t → (outer : List Context) → length outer ≡ n → (rest : List Token) → EndsTerm rest → tree_from outer first None (ps ++ rest) ≡ tree_from outer first (Some t) rest
   expr-read (term d) outer e rest h = term-read d outer e same rest
-  expr-read (plus_term {ps = ps} {qs = qs} {t = t} {u = u} d f) outer e rest h =
-      rw (append_assoc ps (plus ∷ qs) rest) (expr-read d outer e (plus ∷ qs ++ rest) tt ∙ term-read f outer e (sum t) rest ∙ one_sum outer (sum t) u rest h)
-  expr-read (minus_term {ps = ps} {qs = qs} {t = t} {u = u} d f) outer e rest h =
-      rw (append_assoc ps (minus ∷ qs) rest) (expr-read d outer e (minus ∷ qs ++ rest) tt ∙ term-read f outer e (difference t) rest ∙ one_sum outer (difference t) u rest h)
+  expr-read (more_terms {ps = ps} {qs = qs} {t = t} {u = u} sign d f) outer e rest h =
+      rw (append_assoc ps (sum_sign sign ∷ qs) rest) (expr-read d outer e (sum_sign sign ∷ qs ++ rest) tt ∙ term-read f outer e (sum sign t) rest ∙ one_sum outer (sum sign t) u rest h)
 
   term-read : {n : ℕ} {ps : List Token} {t : Tree} → IsTerm n ps t → (outer : List Context) → length outer ≡ n → (before : Tree → Tree) (rest : List Token) → tree_from outer (after before) None (ps ++ rest) ≡ tree_from outer (after before) (Some t) rest
   term-read (factor d) outer e before rest = factor-read d outer e (after before) rest
-  term-read (times_factor {ps = ps} {qs = qs} {t = t} {u = u} d f) outer e before rest =
-      let place = next_factor product (after before) t in
-      rw (append_assoc ps (times ∷ qs) rest) (term-read d outer e before (times ∷ qs ++ rest) ∙ factor-read f outer e place rest ∙ one_term outer place u rest)
-  term-read (over_factor {ps = ps} {qs = qs} {t = t} {u = u} d f) outer e before rest =
-      let place = next_factor quotient (after before) t in
-      rw (append_assoc ps (over ∷ qs) rest) (term-read d outer e before (over ∷ qs ++ rest) ∙ factor-read f outer e place rest ∙ one_term outer place u rest)
+  term-read (more_factors {ps = ps} {qs = qs} {t = t} {u = u} sign d f) outer e before rest =
+      let place = next_factor sign (after before) t in
+      rw (append_assoc ps (product_sign sign ∷ qs) rest) (term-read d outer e before (product_sign sign ∷ qs ++ rest) ∙ factor-read f outer e place rest ∙ one_term outer place u rest)
 
   factor-read : {n : ℕ} {ps : List Token} {t : Tree} → IsFactor n ps t → (outer : List Context) → length outer ≡ n → (here : Context) (rest : List Token) → tree_from outer here None (ps ++ rest) ≡ tree_from outer here (Some t) rest
   factor-read (primary d) outer e here rest = primary-read d outer e here rest
-  factor-read (plus_sign d) outer e here rest = factor-read d outer e here rest
-  factor-read (minus_sign {t = t} d) outer e here rest = factor-read d outer e (negated here) rest ∙ one_term outer (negated here) t rest ∙ sym (one_term outer here (opposite t) rest)
+  factor-read (more_signs {t = t} sign d) outer e here rest =
+      let place = signed_by (with_sign sign) here in
+      factor-read d outer e place rest ∙ one_term outer place t rest ∙ sym (one_term outer here (with_sign sign t) rest)
 
   primary-read : {n : ℕ} {ps : List Token} {t : Tree} → IsPrimary n ps t → (outer : List Context) → length outer ≡ n → (here : Context) (rest : List Token) → tree_from outer here None (ps ++ rest) ≡ tree_from outer here (Some t) rest
   primary-read alone outer e here rest = refl
@@ -56,26 +54,15 @@ place-first : (n : ℕ) → IsPlace n first []
 place-first n = record { sums = []; products = []; signs = []; all = refl; expr = λ ps t d. term d; term = λ ps t d. factor d; factor = λ ps t d. d }
 
 module _ {n : ℕ} {here : Context} {ps : List Token} (p : IsPlace n here ps) where
-  place-plus_sign : IsPlace n here (ps ++ plus ∷ [])
-  place-plus_sign = record {
+  place-signed : (sign : SumSign) → IsPlace n (signed_by (with_sign sign) here) (ps ++ sum_sign sign ∷ [])
+  place-signed sign = record {
     sums = p.sums;
     products = p.products;
-    signs = p.signs ++ plus ∷ [];
+    signs = p.signs ++ sum_sign sign ∷ [];
     all = rw p.all (simp append_assoc);
     expr = p.expr;
     term = p.term;
-    factor = λ qs t d. rw append_assoc (p.factor (plus ∷ qs) t (plus_sign d));
-  }
-
-  place-minus_sign : IsPlace n (negated here) (ps ++ minus ∷ [])
-  place-minus_sign = record {
-    sums = p.sums;
-    products = p.products;
-    signs = p.signs ++ minus ∷ [];
-    all = rw p.all (simp append_assoc);
-    expr = p.expr;
-    term = p.term;
-    factor = λ qs t d. rw append_assoc (p.factor (minus ∷ qs) (opposite t) (minus_sign d));
+    factor = λ qs t d. rw append_assoc (p.factor (sum_sign sign ∷ qs) (with_sign sign t) (more_signs sign d));
   }
 
   module _ {qs : List Token} {t : Tree} (d : IsPrimary n qs t) where
@@ -85,31 +72,27 @@ module _ {n : ℕ} {here : Context} {ps : List Token} (p : IsPlace n here ps) wh
     place-whole : IsExpr n (ps ++ qs) (whole_of here t)
     place-whole = rw p.all (simp append_assoc (p.expr (p.products ++ (p.signs ++ qs)) (term_of here t) place-term))
 
-    place-next_term : (operation : Tree → Tree → Tree) (token : Token)
-        → ((rs ss : List Token) (u v : Tree) → IsExpr n rs u → IsTerm n ss v → IsExpr n (rs ++ token ∷ ss) (operation u v))
-        → IsPlace n (next_term operation here t) (ps ++ qs ++ token ∷ [])
-    place-next_term operation token rule = record {
-      sums = ps ++ qs ++ token ∷ [];
+    place-next_term : (sign : SumSign) → IsPlace n (next_term sign here t) (ps ++ qs ++ sum_sign sign ∷ [])
+    place-next_term sign = record {
+      sums = ps ++ qs ++ sum_sign sign ∷ [];
       products = [];
       signs = [];
       all = simp append-nil;
-      expr = λ rs u f. let e : (ps ++ qs ++ token ∷ []) ++ rs ≡ (ps ++ qs) ++ token ∷ rs = simp append_assoc in rw e (rule (ps ++ qs) rs (whole_of here t) u place-whole f);
+      expr = λ rs u f. let e : (ps ++ qs ++ sum_sign sign ∷ []) ++ rs ≡ (ps ++ qs) ++ sum_sign sign ∷ rs = simp append_assoc in rw e (more_terms sign place-whole f);
       term = λ rs u f. factor f;
       factor = λ rs u f. f;
     }
 
-    place-next_factor : (operation : Tree → Tree → Tree) (token : Token)
-        → ((rs ss : List Token) (u v : Tree) → IsTerm n rs u → IsFactor n ss v → IsTerm n (rs ++ token ∷ ss) (operation u v))
-        → IsPlace n (next_factor operation here t) (ps ++ qs ++ token ∷ [])
-    place-next_factor operation token rule = record {
+    place-next_factor : (sign : ProductSign) → IsPlace n (next_factor sign here t) (ps ++ qs ++ product_sign sign ∷ [])
+    place-next_factor sign = record {
       sums = p.sums;
-      products = p.products ++ (p.signs ++ (qs ++ token ∷ []));
+      products = p.products ++ (p.signs ++ (qs ++ product_sign sign ∷ []));
       signs = [];
       all = rw p.all (simp (append_assoc, append-nil));
       expr = p.expr;
       term = λ rs u f.
-          let e : (p.products ++ (p.signs ++ (qs ++ token ∷ []))) ++ rs ≡ (p.products ++ (p.signs ++ qs)) ++ token ∷ rs = simp append_assoc in
-          rw e (rule (p.products ++ (p.signs ++ qs)) rs (term_of here t) u place-term f);
+          let e : (p.products ++ (p.signs ++ (qs ++ product_sign sign ∷ []))) ++ rs ≡ (p.products ++ (p.signs ++ qs)) ++ product_sign sign ∷ rs = simp append_assoc in
+          rw e (more_factors sign place-term f);
       factor = λ rs u f. f;
     }
 
@@ -123,10 +106,8 @@ mutual
   from_none : (tokens : List Token) (outer : List Context) (here : Context) (bs ps whole : List Token) (t : Tree) → IsStack outer bs → IsPlace (length outer) here ps → whole ≡ bs ++ ps ++ tokens → tree_from outer here None tokens ≡ Some t → IsExpr 0 whole t
   from_none [] outer here bs ps whole t stack place w e = absurd (none-some t e)
   from_none (operand u ∷ tokens) outer here bs ps whole t stack place w e = from_some tokens outer here (leaf u) bs ps (operand u ∷ []) whole t stack place alone (w ∙ simp append_assoc) e
-  from_none (plus ∷ tokens) outer here bs ps whole t stack place w e = from_none tokens outer here bs (ps ++ plus ∷ []) whole t stack (place-plus_sign place) (w ∙ simp append_assoc) e
-  from_none (minus ∷ tokens) outer here bs ps whole t stack place w e = from_none tokens outer (negated here) bs (ps ++ minus ∷ []) whole t stack (place-minus_sign place) (w ∙ simp append_assoc) e
-  from_none (times ∷ tokens) outer here bs ps whole t stack place w e = absurd (none-some t e)
-  from_none (over ∷ tokens) outer here bs ps whole t stack place w e = absurd (none-some t e)
+  from_none (sum_sign sign ∷ tokens) outer here bs ps whole t stack place w e = from_none tokens outer (signed_by (with_sign sign) here) bs (ps ++ sum_sign sign ∷ []) whole t stack (place-signed place sign) (w ∙ simp append_assoc) e
+  from_none (product_sign sign ∷ tokens) outer here bs ps whole t stack place w e = absurd (none-some t e)
   from_none (opening ∷ tokens) outer here bs ps whole t stack place w e = elim (cases_Bool (nat_lt (length outer) max_open)) [
     | inl room ↦
         from_none tokens (here ∷ outer) first (bs ++ ps ++ opening ∷ []) [] whole t (bs, ps, stack, place, ltb-true (length outer) max_open room, refl) (place-first (suc (length outer))) (w ∙ simp append_assoc) (rw room at e)
@@ -141,14 +122,10 @@ mutual
       rw (w, read, ← last) (place-whole place d)
   from_some [] (around ∷ outer) here u bs ps qs whole t stack place d w e = absurd (none-some t e)
   from_some (operand v ∷ tokens) outer here u bs ps qs whole t stack place d w e = absurd (none-some t e)
-  from_some (plus ∷ tokens) outer here u bs ps qs whole t stack place d w e =
-      from_none tokens outer (next_term sum here u) bs (ps ++ qs ++ plus ∷ []) whole t stack (place-next_term place d sum plus (λ rs ss u v f g. plus_term f g)) (w ∙ simp append_assoc) e
-  from_some (minus ∷ tokens) outer here u bs ps qs whole t stack place d w e =
-      from_none tokens outer (next_term difference here u) bs (ps ++ qs ++ minus ∷ []) whole t stack (place-next_term place d difference minus (λ rs ss u v f g. minus_term f g)) (w ∙ simp append_assoc) e
-  from_some (times ∷ tokens) outer here u bs ps qs whole t stack place d w e =
-      from_none tokens outer (next_factor product here u) bs (ps ++ qs ++ times ∷ []) whole t stack (place-next_factor place d product times (λ rs ss u v f g. times_factor f g)) (w ∙ simp append_assoc) e
-  from_some (over ∷ tokens) outer here u bs ps qs whole t stack place d w e =
-      from_none tokens outer (next_factor quotient here u) bs (ps ++ qs ++ over ∷ []) whole t stack (place-next_factor place d quotient over (λ rs ss u v f g. over_factor f g)) (w ∙ simp append_assoc) e
+  from_some (sum_sign sign ∷ tokens) outer here u bs ps qs whole t stack place d w e =
+      from_none tokens outer (next_term sign here u) bs (ps ++ qs ++ sum_sign sign ∷ []) whole t stack (place-next_term place d sign) (w ∙ simp append_assoc) e
+  from_some (product_sign sign ∷ tokens) outer here u bs ps qs whole t stack place d w e =
+      from_none tokens outer (next_factor sign here u) bs (ps ++ qs ++ product_sign sign ∷ []) whole t stack (place-next_factor place d sign) (w ∙ simp append_assoc) e
   from_some (opening ∷ tokens) outer here u bs ps qs whole t stack place d w e = absurd (none-some t e)
   from_some (closing ∷ tokens) [] here u bs ps qs whole t stack place d w e = absurd (none-some t e)
   from_some (closing ∷ tokens) (around ∷ outer) here u bs ps qs whole t stack place d w e =

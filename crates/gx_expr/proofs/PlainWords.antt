@@ -1,5 +1,5 @@
 -- Words that are a few digits, with or without a sign.
-use Rattle.std.proofs.Common.{◌≡◌, ℕ, ◌-◌, ◌*◌, ◌<◌, ◌≤◌, ◌^◌, ◌==◌, pos, neg_ℤ, ℤ, ◌+ℤ◌, Bool, true, false, List, [], ◌∷◌, length, take, drop, Option, None, Some, nat_lt, refl, sym, ap, ◌∙◌, arith, zero-mul, inl, inr, append-nil, length-drop, length-take}
+use Rattle.std.proofs.Common.{◌≡◌, ℕ, ◌+◌, ◌-◌, ◌*◌, ◌<◌, ◌≤◌, ◌^◌, ◌==◌, pos, neg_ℤ, ℤ, ◌+ℤ◌, Bool, true, false, List, [], ◌∷◌, length, take, drop, Option, None, Some, nat_lt, refl, sym, ap, ◌∙◌, arith, zero-mul, inl, inr, append-nil, length-drop, length-take}
 use Rattle.std.specs.List.{list_all, prefix_len}
 use Rattle.std.specs.Option.{option_map}
 use Rattle.std.proofs.Math.Nat.{pow-le-pow_right}
@@ -7,12 +7,12 @@ use Rattle.std.proofs.lemmas.Bool.{and_parts, cases_Bool, eqb-true, eqb-false, l
 use Rattle.std.proofs.lemmas.Int.{ints}
 use Rattle.std.proofs.lemmas.List.{take_all, drop_all}
 use Rattle.std.proofs.lemmas.Option.{none-some}
-use Rattle.gx_expr.specs.declared.operator.Operator.TheVariants.{Minus}
+use Rattle.gx_expr.specs.declared.operator.SumSign.TheVariants.{Minus}
 use Rattle.gx_expr.specs.Descent.{signed, IsSigned}
 use Rattle.gx_expr.specs.Digits.{few_digits, plain_number}
 use Rattle.gx_expr.specs.Eval.{zeros_before, zeros_after, trimmed, front_of, if_short, value_of_decimal, value_of_word}
 use Rattle.gx_expr.specs.Param.{Param}
-use Rattle.gx_expr.specs.Token.{value_of_digits, decimal_at, begins_decimal, Decimal, Read}
+use Rattle.gx_expr.specs.Token.{value_of_digits, decimal_at, begins_decimal, Decimal, Part}
 use Rattle.std.specs.Char.{is_ascii_digit}
 use Rattle.gx_expr.specs.Quantity.{ratio}
 use Rattle.gx_expr.proofs.Numbers.{ratio-whole}
@@ -49,11 +49,12 @@ all-run : (s : List ℕ) → list_all is_ascii_digit s ≡ true → prefix_len i
 all-run [] e = refl
 all-run (b ∷ s) e = let both = and_parts (is_ascii_digit b) (list_all is_ascii_digit s) e in rw (both.0, all-run s both.1) (omega arith)
 
-digits-decimal : (s : List ℕ) → list_all is_ascii_digit s ≡ true → decimal_at s ≡ record { what = record { digits = s; scale = pos 0 }; rest = [] }
+digits-decimal : (s : List ℕ) → list_all is_ascii_digit s ≡ true → decimal_at s ≡ record { what = record { digits = s; scale = pos 0 }; size = length s }
 digits-decimal s e =
     let taken : take (prefix_len is_ascii_digit s) s ≡ s = take_all (prefix_len is_ascii_digit s) s (omega (arith, all-run s e)) in
     let left : drop (prefix_len is_ascii_digit s) s ≡ [] = drop_all (prefix_len is_ascii_digit s) s (omega (arith, all-run s e)) in
-    rw (taken, left, append-nil s) refl
+    let size : prefix_len is_ascii_digit s + 0 + 0 ≡ length s = omega (arith, all-run s e) in
+    rw (taken, left, append-nil s, size) refl
 
 begins : (b : ℕ) (s : List ℕ) → is_ascii_digit b ≡ true → begins_decimal (b ∷ s) ≡ true
 begins b [] e = e
@@ -88,8 +89,8 @@ module _ (params : List Param) (word : List ℕ) (negative : Bool) (n : ℕ) whe
   few_read (b ∷ s) signs few =
       let decimal = digits-decimal (b ∷ s) few.digits in
       let value : ratio (pos n) (pos 1) false false ≡ value_of_decimal (decimal_at (b ∷ s)).what =
-      sym (ap (λ (read : Read Decimal). value_of_decimal read.what) decimal ∙ decimal_whole (b ∷ s) (omega (arith, few.few)) ∙ ap (λ (k : ℕ). ratio (pos k) (pos 1) false false) few.value) in
-      let read = number_read 0 params (b ∷ s) [] (ratio (pos n) (pos 1) false false) (begins b s (and_parts (is_ascii_digit b) (list_all is_ascii_digit s) few.digits).0) value (sym (ap (λ (read : Read Decimal). read.rest) decimal)) in
+      sym (ap (λ (part : Part Decimal). value_of_decimal part.what) decimal ∙ decimal_whole (b ∷ s) (omega (arith, few.few)) ∙ ap (λ (k : ℕ). ratio (pos k) (pos 1) false false) few.value) in
+      let read = number_read 0 params (b ∷ s) [] (ratio (pos n) (pos 1) false false) (begins b s (and_parts (is_ascii_digit b) (list_all is_ascii_digit s) few.digits).0) value (sym (ap (λ (part : Part Decimal). drop part.size (b ∷ s)) decimal ∙ drop_all (length (b ∷ s)) (b ∷ s) (omega arith))) in
       word_whole params word _ (expr_first 0 params word [] _ (term_first 0 params word [] _ (factor_reads 0 params word (b ∷ s) [] negative _ signs read)))
 
 few_small : (s : List ℕ) (n : ℕ) → IsFew s n → n ≤ 2 ^ 62

@@ -1,9 +1,13 @@
 -- The tree at a place, byte by byte.
-use Rattle.std.proofs.Common.{◌≡◌, ℕ, ◌==◌, ◌-◌, true, false, List, [], ◌∷◌, length, Option, None, Some, nat_lt, refl, sym, ap, ◌∙◌}
+use Rattle.std.proofs.Common.{◌≡◌, ◌≢◌, ℕ, ◌-◌, true, false, List, [], ◌∷◌, length, Option, None, Some, nat_lt, refl, sym, ap, ◌∙◌}
 use Rattle.std.proofs.lemmas.Bool.{eqb-false}
-use Rattle.gx_expr.specs.Descent.{begins, IsSumEnd, IsProductEnd, tree_after, tree_on, signed_by, after}
-use Rattle.gx_expr.specs.Token.{Leaf, Token, operand, plus, minus, times, over, opening, closing, in_front, token_at, onto, tokens_from, tokens_of, Read}
-use Rattle.gx_expr.specs.Tree.{Tree, leaf, product, quotient, sum, difference, Context, first, term_of, whole_of, next_term, next_factor, negated, tree_from}
+use Rattle.gx_expr.specs.declared.operator.SumSign.{SumSign}
+use Rattle.gx_expr.specs.declared.operator.SumSign.TheVariants.{Plus, Minus}
+use Rattle.gx_expr.specs.declared.operator.ProductSign.{ProductSign}
+use Rattle.gx_expr.specs.declared.operator.ProductSign.TheVariants.{Times, Over}
+use Rattle.gx_expr.specs.Descent.{begins, sum_byte, product_byte, IsSumEnd, IsProductEnd, tree_after, tree_on, after}
+use Rattle.gx_expr.specs.Token.{Leaf, Token, operand, sum_sign, product_sign, opening, closing, in_front, token_at, onto, tokens_from, tokens_of, Part}
+use Rattle.gx_expr.specs.Tree.{Tree, leaf, Context, first, term_of, whole_of, next_term, next_factor, with_sign, signed_by, tree_from}
 use Rattle.gx_expr.proofs.Tokens.{tokens_of-step, tokens_of-none, IsAt, IsOf, token_at-IsAt}
 
 -- ---- one more token
@@ -16,6 +20,14 @@ leads : (outer outer' : List Context) (here here' : Context) (t u : Option Tree)
 leads outer outer' here here' t u token h None = refl
 leads outer outer' here here' t u token h (Some ps) = h ps
 
+sum_token : (sign : SumSign) (s : List ℕ) → tokens_of (sum_byte sign ∷ s) ≡ in_front (sum_sign sign) (tokens_of s)
+sum_token Plus s = tokens_of-step 43 s 0 (sum_sign Plus) refl
+sum_token Minus s = tokens_of-step 45 s 0 (sum_sign Minus) refl
+
+product_token : (sign : ProductSign) (s : List ℕ) → tokens_of (product_byte sign ∷ s) ≡ in_front (product_sign sign) (tokens_of s)
+product_token Times s = tokens_of-step 42 s 0 (product_sign Times) refl
+product_token Over s = tokens_of-step 47 s 0 (product_sign Over) refl
+
 -- a byte that is a token
 module _ (outer : List Context) (here : Context) where
   pub on-token : (outer' : List Context) (here' : Context) (t u : Option Tree) (token : Token) (text rest : List ℕ) → tokens_of text ≡ in_front token (tokens_of rest) → ((ps : List Token) → tree_from outer here t (token ∷ ps) ≡ tree_from outer' here' u ps) → tree_on outer here t text ≡ tree_on outer' here' u rest
@@ -25,23 +37,14 @@ module _ (outer : List Context) (here : Context) where
   pub on-leaf : (l : Leaf) (text rest : List ℕ) → tokens_of text ≡ in_front (operand l) (tokens_of rest) → tree_on outer here None text ≡ tree_on outer here (Some (leaf l)) rest
   on-leaf l text rest e = on-token outer here None (Some (leaf l)) (operand l) text rest e (λ ps. refl)
 
-  pub on-plus_sign : (s : List ℕ) → tree_on outer here None (43 ∷ s) ≡ tree_on outer here None s
-  on-plus_sign s = on-token outer here None None plus (43 ∷ s) s (tokens_of-step 43 s 0 plus refl) (λ ps. refl)
+  pub on-sign : (sign : SumSign) (s : List ℕ) → tree_on outer here None (sum_byte sign ∷ s) ≡ tree_on outer (signed_by (with_sign sign) here) None s
+  on-sign sign s = on-token outer (signed_by (with_sign sign) here) None None (sum_sign sign) (sum_byte sign ∷ s) s (sum_token sign s) (λ ps. refl)
 
-  pub on-minus_sign : (s : List ℕ) → tree_on outer here None (45 ∷ s) ≡ tree_on outer (negated here) None s
-  on-minus_sign s = on-token outer (negated here) None None minus (45 ∷ s) s (tokens_of-step 45 s 0 minus refl) (λ ps. refl)
+  pub on-sum_sign : (sign : SumSign) (t : Tree) (s : List ℕ) → tree_on outer here (Some t) (sum_byte sign ∷ s) ≡ tree_on outer (next_term sign here t) None s
+  on-sum_sign sign t s = on-token outer (next_term sign here t) (Some t) None (sum_sign sign) (sum_byte sign ∷ s) s (sum_token sign s) (λ ps. refl)
 
-  pub on-plus : (t : Tree) (s : List ℕ) → tree_on outer here (Some t) (43 ∷ s) ≡ tree_on outer (next_term sum here t) None s
-  on-plus t s = on-token outer (next_term sum here t) (Some t) None plus (43 ∷ s) s (tokens_of-step 43 s 0 plus refl) (λ ps. refl)
-
-  pub on-minus : (t : Tree) (s : List ℕ) → tree_on outer here (Some t) (45 ∷ s) ≡ tree_on outer (next_term difference here t) None s
-  on-minus t s = on-token outer (next_term difference here t) (Some t) None minus (45 ∷ s) s (tokens_of-step 45 s 0 minus refl) (λ ps. refl)
-
-  pub on-times : (t : Tree) (s : List ℕ) → tree_on outer here (Some t) (42 ∷ s) ≡ tree_on outer (next_factor product here t) None s
-  on-times t s = on-token outer (next_factor product here t) (Some t) None times (42 ∷ s) s (tokens_of-step 42 s 0 times refl) (λ ps. refl)
-
-  pub on-over : (t : Tree) (s : List ℕ) → tree_on outer here (Some t) (47 ∷ s) ≡ tree_on outer (next_factor quotient here t) None s
-  on-over t s = on-token outer (next_factor quotient here t) (Some t) None over (47 ∷ s) s (tokens_of-step 47 s 0 over refl) (λ ps. refl)
+  pub on-product_sign : (sign : ProductSign) (t : Tree) (s : List ℕ) → tree_on outer here (Some t) (product_byte sign ∷ s) ≡ tree_on outer (next_factor sign here t) None s
+  on-product_sign sign t s = on-token outer (next_factor sign here t) (Some t) None (product_sign sign) (product_byte sign ∷ s) s (product_token sign s) (λ ps. refl)
 
   pub on-opening : (s : List ℕ) → nat_lt (length outer) 64 ≡ true → tree_on outer here None (40 ∷ s) ≡ tree_on (here ∷ outer) first None s
   on-opening s e = on-token (here ∷ outer) first None None opening (40 ∷ s) s (tokens_of-step 40 s 0 opening refl) (λ ps. rw e refl)
@@ -72,18 +75,24 @@ pub none-unread : (outer : List Context) (here : Context) (t : Option Tree) (b :
 unfolding tree_on
 none-unread outer here t b s e = ap (tree_after outer here t) (tokens_of-none b s e)
 
+sum_not : (b : ℕ) (s : List ℕ) → IsSumEnd (b ∷ s) → (sign : SumSign) → b ≢ sum_byte sign
+sum_not b s end Plus = eqb-false b 43 end.plus
+sum_not b s end Minus = eqb-false b 45 end.minus
+
+product_not : (b : ℕ) (s : List ℕ) → IsProductEnd (b ∷ s) → (sign : ProductSign) → b ≢ product_byte sign
+product_not b s end Times = eqb-false b 42 end.times
+product_not b s end Over = eqb-false b 47 end.over
+
 -- an expression has ended, and neither does its level nor the word
-module _ (here : Context) (t : Tree) (f : List ℕ → Option (List Token)) (b : ℕ) (plus_not : b == 43 ≡ false) (minus_not : b == 45 ≡ false) (times_not : b == 42 ≡ false) (over_not : b == 47 ≡ false) where
-  never-ended : (outer : List Context) → ((ps : List Token) → b ≡ 41 → tree_from outer here (Some t) (closing ∷ ps) ≡ None) → (o : Option (Read Token)) → IsAt b o → tree_after outer here (Some t) (onto o f) ≡ None
+module _ (here : Context) (t : Tree) (f : ℕ → Option (List Token)) (b : ℕ) (s : List ℕ) (sums : IsSumEnd (b ∷ s)) (products : IsProductEnd (b ∷ s)) where
+  never-ended : (outer : List Context) → ((ps : List Token) → b ≡ 41 → tree_from outer here (Some t) (closing ∷ ps) ≡ None) → (o : Option (Part Token)) → IsAt b o → tree_after outer here (Some t) (onto o f) ≡ None
   never-ended outer h None k = refl
-  never-ended outer h (Some read) k = elim read.what as (λ p. IsOf b p → tree_after outer here (Some t) (in_front p (f read.rest)) ≡ None) [
-    | operand u ↦ λ k. never outer here (Some t) (operand u) (λ ps. refl) (f read.rest)
-    | plus ↦ λ k. absurd (eqb-false b 43 plus_not k)
-    | minus ↦ λ k. absurd (eqb-false b 45 minus_not k)
-    | times ↦ λ k. absurd (eqb-false b 42 times_not k)
-    | over ↦ λ k. absurd (eqb-false b 47 over_not k)
-    | opening ↦ λ k. never outer here (Some t) opening (λ ps. refl) (f read.rest)
-    | closing ↦ λ k. never outer here (Some t) closing (λ ps. h ps k) (f read.rest)
+  never-ended outer h (Some part) k = elim part.what as (λ p. IsOf b p → tree_after outer here (Some t) (in_front p (f part.size)) ≡ None) [
+    | operand u ↦ λ k. never outer here (Some t) (operand u) (λ ps. refl) (f part.size)
+    | sum_sign sign ↦ λ k. absurd (sum_not b s sums sign k)
+    | product_sign sign ↦ λ k. absurd (product_not b s products sign k)
+    | opening ↦ λ k. never outer here (Some t) opening (λ ps. refl) (f part.size)
+    | closing ↦ λ k. never outer here (Some t) closing (λ ps. h ps k) (f part.size)
   ] k
 
 -- where only leaves, parentheses and nothing may follow, no tree ends
@@ -91,12 +100,12 @@ pub none-inside : (outer : List Context) (here around : Context) (t : Tree) (s :
 unfolding tree_on
 none-inside outer here around t [] sums products closing_not = refl
 none-inside outer here around t (b ∷ s) sums products closing_not =
-    never-ended here t (λ rest. tokens_from (length s - length rest) s) b sums.plus sums.minus products.times products.over (around ∷ outer) (λ ps e. absurd (eqb-false b 41 closing_not e)) (token_at (b ∷ s)) (token_at-IsAt b s)
+    never-ended here t (λ size. tokens_from (size - 1) s) b s sums products (around ∷ outer) (λ ps e. absurd (eqb-false b 41 closing_not e)) (token_at (b ∷ s)) (token_at-IsAt b s)
 
 pub none-outside : (here : Context) (t : Tree) (b : ℕ) (s : List ℕ) → IsSumEnd (b ∷ s) → IsProductEnd (b ∷ s) → tree_on [] here (Some t) (b ∷ s) ≡ None
 unfolding tree_on
 none-outside here t b s sums products =
-    never-ended here t (λ rest. tokens_from (length s - length rest) s) b sums.plus sums.minus products.times products.over [] (λ ps e. refl) (token_at (b ∷ s)) (token_at-IsAt b s)
+    never-ended here t (λ size. tokens_from (size - 1) s) b s sums products [] (λ ps e. refl) (token_at (b ∷ s)) (token_at-IsAt b s)
 
 -- ---- places that are one
 
@@ -105,10 +114,8 @@ pub one_term : (outer : List Context) (here : Context) (t : Tree) (ps : List Tok
 one_term [] here t [] = refl
 one_term (around ∷ outer) here t [] = refl
 one_term outer here t (operand u ∷ ps) = refl
-one_term outer here t (plus ∷ ps) = refl
-one_term outer here t (minus ∷ ps) = refl
-one_term outer here t (times ∷ ps) = refl
-one_term outer here t (over ∷ ps) = refl
+one_term outer here t (sum_sign sign ∷ ps) = refl
+one_term outer here t (product_sign sign ∷ ps) = refl
 one_term outer here t (opening ∷ ps) = refl
 one_term [] here t (closing ∷ ps) = refl
 one_term (around ∷ outer) here t (closing ∷ ps) = refl
@@ -129,10 +136,8 @@ on-signed sign outer here t s = on-term outer (signed_by sign here) t s ∙ sym 
 abbrev pub EndsTerm : List Token → Type 0
 EndsTerm [] = Unit {0}
 EndsTerm (operand t ∷ ps) = Unit {0}
-EndsTerm (plus ∷ ps) = Unit {0}
-EndsTerm (minus ∷ ps) = Unit {0}
-EndsTerm (times ∷ ps) = ⊥
-EndsTerm (over ∷ ps) = ⊥
+EndsTerm (sum_sign sign ∷ ps) = Unit {0}
+EndsTerm (product_sign sign ∷ ps) = ⊥
 EndsTerm (opening ∷ ps) = Unit {0}
 EndsTerm (closing ∷ ps) = Unit {0}
 
@@ -141,21 +146,17 @@ pub one_sum : (outer : List Context) (before : Tree → Tree) (t : Tree) (ps : L
 one_sum [] before t [] h = refl
 one_sum (around ∷ outer) before t [] h = refl
 one_sum outer before t (operand u ∷ ps) h = refl
-one_sum outer before t (plus ∷ ps) h = refl
-one_sum outer before t (minus ∷ ps) h = refl
-one_sum outer before t (times ∷ ps) h = absurd h
-one_sum outer before t (over ∷ ps) h = absurd h
+one_sum outer before t (sum_sign sign ∷ ps) h = refl
+one_sum outer before t (product_sign sign ∷ ps) h = absurd h
 one_sum outer before t (opening ∷ ps) h = refl
 one_sum [] before t (closing ∷ ps) h = refl
 one_sum (around ∷ outer) before t (closing ∷ ps) h = refl
 
-module _ (b : ℕ) (times_not : b == 42 ≡ false) (over_not : b == 47 ≡ false) where
+module _ (b : ℕ) (s : List ℕ) (end : IsProductEnd (b ∷ s)) where
   ends_term : (p : Token) (ps : List Token) → IsOf b p → EndsTerm (p ∷ ps)
   ends_term (operand l) ps k = tt
-  ends_term plus ps k = tt
-  ends_term minus ps k = tt
-  ends_term times ps k = eqb-false b 42 times_not k
-  ends_term over ps k = eqb-false b 47 over_not k
+  ends_term (sum_sign sign) ps k = tt
+  ends_term (product_sign sign) ps k = product_not b s end sign k
   ends_term opening ps k = tt
   ends_term closing ps k = tt
 
@@ -163,14 +164,14 @@ module _ (b : ℕ) (times_not : b == 42 ≡ false) (over_not : b == 47 ≡ false
   one_sum_after outer before t p None k = refl
   one_sum_after outer before t p (Some ps) k = one_sum outer before t (p ∷ ps) (ends_term p ps k)
 
-  one_sum_read : (outer : List Context) (before : Tree → Tree) (t : Tree) (f : List ℕ → Option (List Token)) (o : Option (Read Token)) → IsAt b o → tree_after outer (after before) (Some t) (onto o f) ≡ tree_after outer first (Some (before t)) (onto o f)
+  one_sum_read : (outer : List Context) (before : Tree → Tree) (t : Tree) (f : ℕ → Option (List Token)) (o : Option (Part Token)) → IsAt b o → tree_after outer (after before) (Some t) (onto o f) ≡ tree_after outer first (Some (before t)) (onto o f)
   one_sum_read outer before t f None k = refl
-  one_sum_read outer before t f (Some read) k = one_sum_after outer before t read.what (f read.rest) k
+  one_sum_read outer before t f (Some part) k = one_sum_after outer before t part.what (f part.size) k
 
 pub on-sum : (outer : List Context) (before : Tree → Tree) (t : Tree) (s : List ℕ) → IsProductEnd s → tree_on outer (after before) (Some t) s ≡ tree_on outer first (Some (before t)) s
 unfolding tree_on
 on-sum outer before t [] end = one_sum outer before t [] tt
-on-sum outer before t (b ∷ s) end = one_sum_read b end.times end.over outer before t (λ rest. tokens_from (length s - length rest) s) (token_at (b ∷ s)) (token_at-IsAt b s)
+on-sum outer before t (b ∷ s) end = one_sum_read b s end outer before t (λ size. tokens_from (size - 1) s) (token_at (b ∷ s)) (token_at-IsAt b s)
 
 -- nothing follows
 pub on-end : (t : Tree) → tree_on [] first (Some t) [] ≡ Some t

@@ -1,16 +1,18 @@
 -- How the descent goes over a text, byte by byte. No public contract stands on this file.
 use Rattle.std.specs.Prelude.{◌≡◌, ℕ, ◌<◌, ◌≤◌, ◌==◌, Bool, true, false, not, List, [], ◌∷◌, length, Option, None, Some, Result}
 use Rattle.gx_expr.specs.declared.fault.ExprFault.{ExprFault}
-use Rattle.gx_expr.specs.declared.operator.Operator.{Operator}
-use Rattle.gx_expr.specs.declared.operator.Operator.TheVariants.{Plus, Minus, Times, Over}
+use Rattle.gx_expr.specs.declared.operator.SumSign.{SumSign}
+use Rattle.gx_expr.specs.declared.operator.SumSign.TheVariants.{Plus, Minus}
+use Rattle.gx_expr.specs.declared.operator.ProductSign.{ProductSign}
+use Rattle.gx_expr.specs.declared.operator.ProductSign.TheVariants.{Times, Over}
 use Rattle.gx_expr.specs.declared.cursor.Class.{Class}
 use Rattle.gx_expr.specs.declared.cursor.Class.TheVariants.{Digit, Letter, NameByte}
 use Rattle.gx_expr.specs.Param.{Param}
 use Rattle.gx_expr.specs.Eval.{of_one, value_of}
 use Rattle.gx_expr.specs.Token.{is_name_byte, Token, tokens_of}
-use Rattle.gx_expr.specs.Tree.{Context, Tree, same, first, tree_from}
+use Rattle.gx_expr.specs.Tree.{Context, Tree, same, first, signed_by, tree_from}
 use Rattle.std.specs.Char.{is_ascii_digit, is_ascii_alphabetic}
-use Rattle.gx_expr.specs.Quantity.{Quantity, sum_of, difference_of, product_of, quotient_of, opposite_of}
+use Rattle.gx_expr.specs.Quantity.{Quantity, opposite_of}
 
 -- ---- bytes
 
@@ -30,11 +32,13 @@ Takes byte old new false = (new ≡ old) × (begins byte old ≡ false)
 
 -- ---- operators
 
-abbrev pub operation_of : Operator → Quantity → Quantity → Result Quantity ExprFault
-operation_of Plus = sum_of
-operation_of Minus = difference_of
-operation_of Times = product_of
-operation_of Over = quotient_of
+abbrev pub sum_byte : SumSign → ℕ
+sum_byte Plus = 43
+sum_byte Minus = 45
+
+abbrev pub product_byte : ProductSign → ℕ
+product_byte Times = 42
+product_byte Over = 47
 
 -- no `+` or `-` is first
 pub record IsSumEnd (s : List ℕ) : Type 0 where
@@ -46,26 +50,18 @@ pub record IsProductEnd (s : List ℕ) : Type 0 where
   pub times : begins 42 s ≡ false
   pub over : begins 47 s ≡ false
 
-abbrev pub IsSumSign : List ℕ → List ℕ → Option Operator → Type 0
+abbrev pub IsSumSign : List ℕ → List ℕ → Option SumSign → Type 0
 IsSumSign old new None = (new ≡ old) × IsSumEnd old
-IsSumSign old new (Some Plus) = old ≡ 43 ∷ new
-IsSumSign old new (Some Minus) = old ≡ 45 ∷ new
-IsSumSign old new (Some Times) = ⊥
-IsSumSign old new (Some Over) = ⊥
+IsSumSign old new (Some sign) = old ≡ sum_byte sign ∷ new
 
-abbrev pub IsProductSign : List ℕ → List ℕ → Option Operator → Type 0
+abbrev pub IsProductSign : List ℕ → List ℕ → Option ProductSign → Type 0
 IsProductSign old new None = (new ≡ old) × IsProductEnd old
-IsProductSign old new (Some Plus) = ⊥
-IsProductSign old new (Some Minus) = ⊥
-IsProductSign old new (Some Times) = old ≡ 42 ∷ new
-IsProductSign old new (Some Over) = old ≡ 47 ∷ new
+IsProductSign old new (Some sign) = old ≡ product_byte sign ∷ new
 
 -- one more sign
-abbrev pub flipped : Operator → Bool → Bool
+abbrev pub flipped : SumSign → Bool → Bool
 flipped Plus negative = negative
 flipped Minus negative = not negative
-flipped Times negative = negative
-flipped Over negative = negative
 
 -- ---- trees
 
@@ -76,10 +72,6 @@ tree_after outer here primary (Some tokens) = tree_from outer here primary token
 -- the tree at a place, with this text to come
 unfoldable pub tree_on : List Context → Context → Option Tree → List ℕ → Option Tree
 tree_on outer here primary text = tree_after outer here primary (tokens_of text)
-
--- a place, with signs before the next primary
-abbrev pub signed_by : (Tree → Tree) → Context → Context
-signed_by sign here = record { sum = here.sum; product = here.product; sign = λ t. here.sign (sign t) }
 
 -- the places of a factor, of a term and of an expression
 abbrev pub anywhere : Context → Context

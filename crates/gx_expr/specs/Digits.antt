@@ -1,12 +1,12 @@
 -- How a number is told from its digits. No public contract stands on this file.
-use Rattle.std.specs.Prelude.{◌≡◌, ℕ, ◌+◌, ◌-◌, ◌*◌, ◌≤◌, ◌^◌, ◌==◌, ℤ, pos, neg_ℤ, min, Bool, true, false, nat_le, nat_lt, if◌then◌else◌, List, [], ◌∷◌, length, Option, None, Some, Result, Err}
+use Rattle.std.specs.Prelude.{◌≡◌, ℕ, ◌+◌, ◌-◌, ◌*◌, ◌≤◌, ◌^◌, ◌==◌, ℤ, pos, neg_ℤ, min, Bool, true, false, nat_le, nat_lt, if◌then◌else◌, List, [], ◌∷◌, length, drop, Option, None, Some, Result, Err}
 use Rattle.gx_expr.specs.declared.digits.Digits.{Digits}
 use Rattle.gx_expr.specs.declared.exponent.Power.{Power}
 use Rattle.gx_expr.specs.declared.exponent.TheConstants.{MAX_SIZE}
 use Rattle.gx_expr.specs.declared.fault.ExprFault.{ExprFault}
 use Rattle.gx_expr.specs.declared.fault.ExprFault.TheVariants.{TooWide}
 use Rattle.gx_expr.specs.Eval.{zeros_after, front_of}
-use Rattle.gx_expr.specs.Token.{value_of_digits, exponent_at, signed_exponent, Read}
+use Rattle.gx_expr.specs.Token.{value_of_digits, exponent_at, exponent_after, no_exponent, power_of, Part}
 use Rattle.std.specs.Char.{is_ascii_digit}
 use Rattle.gx_expr.specs.Quantity.{Quantity, ratio}
 use Rattle.std.specs.List.{list_all}
@@ -36,21 +36,16 @@ value_kept d up down =
     else if nat_lt 18 d.count then Err TooWide
     else placed d.value (up + d.zeros) down
 
-abbrev pub power_of : Bool → ℕ → ℤ
-power_of true n = neg_ℤ (pos n)
-power_of false n = pos n
-
 -- the mark of an exponent was passed, or there is no exponent
 abbrev pub HasMark : List ℕ → List ℕ → Bool → Type 0
-HasMark old new true = exponent_at old ≡ signed_exponent old new
-HasMark old new false = exponent_at old ≡ record { what = pos 0; rest = old }
+HasMark old new true = (new ≡ drop 1 old) × (exponent_at old ≡ exponent_after new)
+HasMark old new false = exponent_at old ≡ no_exponent
 
 -- an exponent, whose magnitude is held up to MAX_SIZE
-pub record IsPower (read : Read ℤ) (power : Power) (new : List ℕ) : Type 0 where
+pub record IsPower (part : Part ℤ) (power : Power) : Type 0 where
   pub magnitude : ℕ
-  pub what : read.what ≡ power_of power.negative magnitude
+  pub what : part.what ≡ power_of power.negative magnitude
   pub size : power.size ≡ min MAX_SIZE magnitude
-  pub rest : new ≡ read.rest
 
 -- the value of 1 to 9 digits
 abbrev pub few_digits : List ℕ → Option ℕ

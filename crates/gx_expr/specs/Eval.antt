@@ -1,13 +1,17 @@
 -- The values of expressions, or their first fault in evaluation: operands before their operator, left before right.
 -- Units: the documentation of Geant4's ASCII text geometry format; which ones, and every width, are this project's own.
-use Rattle.std.specs.Prelude.{ℕ, suc, zero, ◌-◌, ◌*◌, ◌^◌, ℤ, pos, negsuc, ◌+ℤ◌, ◌==◌, ◌||◌, nat_lt, true, false, if◌then◌else◌, codes, List, [], ◌∷◌, length, take, drop, unsigned_abs, Option, None, Some, Result, Ok, Err}
+use Rattle.std.specs.Prelude.{ℕ, suc, ◌-◌, ◌*◌, ◌^◌, ℤ, pos, negsuc, ◌+ℤ◌, ◌==◌, ◌||◌, nat_lt, false, if◌then◌else◌, List, length, take, drop, unsigned_abs, Option, None, Some, Result, Ok, Err}
 use Rattle.std.specs.List.{prefix_len, suffix_len}
-use Rattle.gx_table.specs.Table.{Row, number_in}
+use Rattle.gx_expr.specs.Unit.{value_of_unit}
 use Rattle.gx_expr.specs.declared.fault.ExprFault.{ExprFault}
-use Rattle.gx_expr.specs.declared.fault.ExprFault.TheVariants.{Syntax, UnknownParam, UnknownUnit, TooWide}
+use Rattle.gx_expr.specs.declared.fault.ExprFault.TheVariants.{Syntax, UnknownParam, TooWide}
 use Rattle.gx_expr.specs.Param.{Param, value_of_name}
 use Rattle.gx_expr.specs.Token.{Decimal, value_of_digits, Leaf, number, name, unit}
-use Rattle.gx_expr.specs.Tree.{Tree, leaf, opposite, sum, difference, product, quotient, tree_of}
+use Rattle.gx_expr.specs.Tree.{Tree, leaf, opposite, sum, product, tree_of}
+use Rattle.gx_expr.specs.declared.operator.SumSign.{SumSign}
+use Rattle.gx_expr.specs.declared.operator.SumSign.TheVariants.{Plus, Minus}
+use Rattle.gx_expr.specs.declared.operator.ProductSign.{ProductSign}
+use Rattle.gx_expr.specs.declared.operator.ProductSign.TheVariants.{Times, Over}
 use Rattle.gx_expr.specs.Quantity.{Quantity, ratio, sum_of, difference_of, product_of, quotient_of, opposite_of}
 
 -- ---- numbers
@@ -41,31 +45,6 @@ value_of_decimal d =
     let inner = front_of (trimmed d.digits) in
     if length inner == 0 then ratio (pos 0) (pos 1) false false else if_short inner (d.scale +ℤ pos (zeros_after (trimmed d.digits)))
 
--- ---- units
-
-abbrev pub row : List ℕ → ℕ → Row
-row text unit_number = record { text = text; number = unit_number }
-
-abbrev pub units : List Row
-units =
-    row (codes "mm") 0 ∷ row (codes "millimeter") 0 ∷ row (codes "cm") 1 ∷ row (codes "centimeter") 1 ∷ row (codes "m") 2 ∷ row (codes "meter") 2
-    ∷ row (codes "km") 3 ∷ row (codes "kilometer") 3 ∷ row (codes "um") 4 ∷ row (codes "micrometer") 4 ∷ row (codes "nm") 5 ∷ row (codes "nanometer") 5
-    ∷ row (codes "angstrom") 6 ∷ row (codes "deg") 7 ∷ row (codes "degree") 7 ∷ []
-
-abbrev pub length_of : ℤ → ℕ → Quantity
-length_of num den = record { number = record { num = num; den = den }; length = true; angle = false }
-
--- a length in millimetres, or an angle in degrees
-abbrev pub unit_of : ℕ → Quantity
-unit_of zero = length_of (pos 1) 1
-unit_of (suc zero) = length_of (pos 10) 1
-unit_of (suc (suc zero)) = length_of (pos 1000) 1
-unit_of (suc (suc (suc zero))) = length_of (pos 1000000) 1
-unit_of (suc (suc (suc (suc zero)))) = length_of (pos 1) 1000
-unit_of (suc (suc (suc (suc (suc zero))))) = length_of (pos 1) 1000000
-unit_of (suc (suc (suc (suc (suc (suc zero)))))) = length_of (pos 1) 10000000
-unit_of (suc (suc (suc (suc (suc (suc (suc n))))))) = record { number = record { num = pos 1; den = 1 }; length = false; angle = true }
-
 abbrev pub found : {A B : Type 0} → ExprFault → (A → B) → Option A → Result B ExprFault
 found fault f None = Err fault
 found fault f (Some a) = Ok (f a)
@@ -81,18 +60,24 @@ of_two operation (Err fault) b = Err fault
 of_two operation (Ok a) (Err fault) = Err fault
 of_two operation (Ok a) (Ok b) = operation a b
 
+abbrev pub sum_operation : SumSign → Quantity → Quantity → Result Quantity ExprFault
+sum_operation Plus = sum_of
+sum_operation Minus = difference_of
+
+abbrev pub product_operation : ProductSign → Quantity → Quantity → Result Quantity ExprFault
+product_operation Times = product_of
+product_operation Over = quotient_of
+
 abbrev pub value_of_leaf : List Param → Leaf → Result Quantity ExprFault
 value_of_leaf params (number d) = value_of_decimal d
 value_of_leaf params (name n) = found UnknownParam (λ w. w) (value_of_name params n)
-value_of_leaf params (unit u) = found UnknownUnit unit_of (number_in units u)
+value_of_leaf params (unit u) = value_of_unit u
 
 abbrev pub value_of : List Param → Tree → Result Quantity ExprFault
 value_of params (leaf l) = value_of_leaf params l
 value_of params (opposite a) = of_one opposite_of (value_of params a)
-value_of params (sum a b) = of_two sum_of (value_of params a) (value_of params b)
-value_of params (difference a b) = of_two difference_of (value_of params a) (value_of params b)
-value_of params (product a b) = of_two product_of (value_of params a) (value_of params b)
-value_of params (quotient a b) = of_two quotient_of (value_of params a) (value_of params b)
+value_of params (sum sign a b) = of_two (sum_operation sign) (value_of params a) (value_of params b)
+value_of params (product sign a b) = of_two (product_operation sign) (value_of params a) (value_of params b)
 
 abbrev pub value_of_tree : List Param → Option Tree → Result Quantity ExprFault
 value_of_tree params None = Err Syntax

@@ -9,3 +9,4 @@ pub mod Param
 pub mod Token
 pub mod Tree
 pub mod Quantity
+pub mod Unit

@@ -1,14 +1,15 @@
 -- The tree of the tokens of a word, which is read from the left; the law of the grammar says which trees these are.
 use Rattle.std.specs.Prelude.{ℕ, nat_lt, if◌then◌else◌, List, [], ◌∷◌, length, Option, None, Some}
-use Rattle.gx_expr.specs.Token.{Leaf, Token, operand, plus, minus, times, over, opening, closing, tokens_of}
+use Rattle.gx_expr.specs.Token.{Leaf, Token, operand, sum_sign, product_sign, opening, closing, tokens_of}
+use Rattle.gx_expr.specs.declared.operator.SumSign.{SumSign}
+use Rattle.gx_expr.specs.declared.operator.SumSign.TheVariants.{Plus, Minus}
+use Rattle.gx_expr.specs.declared.operator.ProductSign.{ProductSign}
 
 pub data Tree : Type 0 where
   leaf : Leaf → Tree
   opposite : Tree → Tree
-  sum : Tree → Tree → Tree
-  difference : Tree → Tree → Tree
-  product : Tree → Tree → Tree
-  quotient : Tree → Tree → Tree
+  sum : SumSign → Tree → Tree → Tree
+  product : ProductSign → Tree → Tree → Tree
 
 -- What stands before a place, within its parentheses: the sum so far makes a tree of the term that is to come, the
 -- product so far makes the term of its next factor, and the signs make the factor of its primary.
@@ -35,15 +36,20 @@ abbrev pub whole_of : Context → Tree → Tree
 whole_of here primary = here.sum (term_of here primary)
 
 -- another term is to come, or another factor
-abbrev pub next_term : (Tree → Tree → Tree) → Context → Tree → Context
-next_term operation here primary = record { sum = operation (whole_of here primary); product = same; sign = same }
+abbrev pub next_term : SumSign → Context → Tree → Context
+next_term sign here primary = record { sum = sum sign (whole_of here primary); product = same; sign = same }
 
-abbrev pub next_factor : (Tree → Tree → Tree) → Context → Tree → Context
-next_factor operation here primary = record { sum = here.sum; product = operation (term_of here primary); sign = same }
+abbrev pub next_factor : ProductSign → Context → Tree → Context
+next_factor sign here primary = record { sum = here.sum; product = product sign (term_of here primary); sign = same }
 
--- the next primary has one more sign `-`
-abbrev pub negated : Context → Context
-negated here = record { sum = here.sum; product = here.product; sign = λ t. here.sign (opposite t) }
+-- a tree with a sign before it
+abbrev pub with_sign : SumSign → Tree → Tree
+with_sign Plus t = t
+with_sign Minus t = opposite t
+
+-- the next primary has these signs too
+abbrev pub signed_by : (Tree → Tree) → Context → Context
+signed_by sign here = record { sum = here.sum; product = here.product; sign = λ t. here.sign (sign t) }
 
 -- the most parentheses that may be open at one place
 abbrev pub max_open : ℕ
@@ -54,19 +60,15 @@ max_open = 64
 abbrev pub tree_from : List Context → Context → Option Tree → List Token → Option Tree
 tree_from outer here None [] = None
 tree_from outer here None (operand l ∷ tokens) = tree_from outer here (Some (leaf l)) tokens
-tree_from outer here None (plus ∷ tokens) = tree_from outer here None tokens
-tree_from outer here None (minus ∷ tokens) = tree_from outer (negated here) None tokens
-tree_from outer here None (times ∷ tokens) = None
-tree_from outer here None (over ∷ tokens) = None
+tree_from outer here None (sum_sign sign ∷ tokens) = tree_from outer (signed_by (with_sign sign) here) None tokens
+tree_from outer here None (product_sign sign ∷ tokens) = None
 tree_from outer here None (opening ∷ tokens) = if nat_lt (length outer) max_open then tree_from (here ∷ outer) first None tokens else None
 tree_from outer here None (closing ∷ tokens) = None
 tree_from [] here (Some t) [] = Some (whole_of here t)
 tree_from (around ∷ outer) here (Some t) [] = None
 tree_from outer here (Some t) (operand l ∷ tokens) = None
-tree_from outer here (Some t) (plus ∷ tokens) = tree_from outer (next_term sum here t) None tokens
-tree_from outer here (Some t) (minus ∷ tokens) = tree_from outer (next_term difference here t) None tokens
-tree_from outer here (Some t) (times ∷ tokens) = tree_from outer (next_factor product here t) None tokens
-tree_from outer here (Some t) (over ∷ tokens) = tree_from outer (next_factor quotient here t) None tokens
+tree_from outer here (Some t) (sum_sign sign ∷ tokens) = tree_from outer (next_term sign here t) None tokens
+tree_from outer here (Some t) (product_sign sign ∷ tokens) = tree_from outer (next_factor sign here t) None tokens
 tree_from outer here (Some t) (opening ∷ tokens) = None
 tree_from [] here (Some t) (closing ∷ tokens) = None
 tree_from (around ∷ outer) here (Some t) (closing ∷ tokens) = tree_from outer around (Some (whole_of here t)) tokens

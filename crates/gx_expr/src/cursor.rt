@@ -1,4 +1,4 @@
-ghost use Rattle.std.specs.Prelude.{◌≡◌, ◌≤◌, length};
+ghost use Rattle.std.specs.Prelude.{◌≡◌, ◌≤◌, length, drop};
 ghost use Rattle.std.specs.List.{prefix_len};
 ghost use Rattle.gx_expr.specs.Token.{is_name_byte, run_of, begins_decimal};
 ghost use Rattle.std.specs.Char.{is_ascii_digit, is_ascii_alphabetic};
@@ -92,7 +92,7 @@ impl<'a> Cursor<'a> {
     #[tactic(auto, using(crate::proofs::Tokens::run_all))]
     pub fn run(&mut self, class: Class) -> &'a [u8]
         ensures what { result.now ≡ (run_of (test_of class) self.old).what }
-        ensures rest { self.new ≡ (run_of (test_of class) self.old).rest }
+        ensures rest { self.new ≡ drop (prefix_len (test_of class) self.old) self.old }
         ensures all { EachIndex result.now (λ k. IsTrue (test_of class (slice_index result.now k))) }
     {
         let (run, rest) = self.left.split_at(run_len(self.left, class));

@@ -4,7 +4,7 @@ ghost use Rattle.gx_expr.specs.Descent.{Reads, anywhere, after, alone, IsSumEnd,
 
 use crate::cursor::Cursor;
 use crate::leaf::leaf;
-use crate::operator::{combined, opposite_if, product_sign, signs, sum_sign};
+use crate::operator::{opposite_if, product_sign, signs, sum_sign};
 use crate::plain::plain_number;
 use crate::{ExprFault, Params, Value};
 
@@ -40,9 +40,9 @@ fn expr(params: &Params, text: &mut Cursor, depth: usize) -> Option<Result<Value
     ensures products { IfSome result (λ _. IsProductEnd text.new) }
 {
     let mut value = term(params, text, depth)?;
-    while let Some(operator) = sum_sign(text) {
+    while let Some(sign) = sum_sign(text) {
         let next = term(params, text, depth)?;
-        value = combined(operator, value, next);
+        value = sign.join(value, next);
     }
     Some(value)
 }
@@ -55,9 +55,9 @@ fn term(params: &Params, text: &mut Cursor, depth: usize) -> Option<Result<Value
     ensures products { IfSome result (λ _. IsProductEnd text.new) }
 {
     let mut value = factor(params, text, depth)?;
-    while let Some(operator) = product_sign(text) {
+    while let Some(sign) = product_sign(text) {
         let next = factor(params, text, depth)?;
-        value = combined(operator, value, next);
+        value = sign.join(value, next);
     }
     Some(value)
 }

@@ -1,7 +1,7 @@
-ghost use Rattle.std.specs.Prelude.{◌≡◌, List, ℕ, min, pos, length, EachIndex, slice_index, IsTrue};
-ghost use Rattle.gx_expr.specs.Token.{exponent_at, signed_exponent, exponent_from, value_of_digits, run_of};
+ghost use Rattle.std.specs.Prelude.{◌≡◌, min, drop, EachIndex, slice_index, IsTrue};
+ghost use Rattle.gx_expr.specs.Token.{exponent_at, sign_at, value_of_digits};
 ghost use Rattle.std.specs.Char.{is_ascii_digit};
-ghost use Rattle.gx_expr.specs.Digits.{IsPower, power_of, HasMark};
+ghost use Rattle.gx_expr.specs.Digits.{IsPower, HasMark};
 
 use crate::cursor::{Class, Cursor};
 
@@ -17,7 +17,8 @@ pub const MAX_SIZE: u128 = 1267650600228229401496703205376;
 
 // The exponent that is next, if there is one.
 pub fn exponent(text: &mut Cursor) -> Power
-    ensures { IsPower (exponent_at text.old) result text.new }
+    ensures power { IsPower (exponent_at text.old) result }
+    ensures rest { text.new ≡ drop (exponent_at text.old).size text.old }
 {
     let mut ahead = Cursor::new(text.left());
     let none = Power {
@@ -48,7 +49,8 @@ fn mark(text: &mut Cursor) -> bool
 
 // Passes the sign, if there is one: whether it is `-`.
 fn minus(text: &mut Cursor) -> bool
-    ensures { (s : List ℕ) → signed_exponent s text.old ≡ exponent_from (power_of result) s (run_of is_ascii_digit text.new) }
+    ensures what { result ≡ (sign_at text.old).what }
+    ensures rest { text.new ≡ drop (sign_at text.old).size text.old }
 {
     if text.take(b'-') {
         return true;

@@ -5,7 +5,7 @@ ghost use Rattle.gx_expr.specs.Descent.{Reads, anywhere, begins, IsSumEnd};
 
 use crate::cursor::{Class, Cursor};
 use crate::decimal::number;
-use crate::unit::unit;
+use crate::unit::unit_value;
 use crate::{ExprFault, Params, Value};
 
 // A number, a name or a unit.
@@ -29,7 +29,7 @@ pub fn leaf(params: &Params, text: &mut Cursor) -> Option<Result<Value, ExprFaul
     if word.is_empty() {
         return None;
     }
-    Some(unit(word))
+    Some(unit_value(word))
 }
 
 // The value of a parameter.

@@ -1,41 +1,46 @@
 ghost use Rattle.std.specs.Prelude.{◌≡◌};
-ghost use Rattle.gx_expr.specs.Eval.{of_two};
-ghost use Rattle.gx_expr.specs.Descent.{operation_of, IsSumSign, IsProductSign, IsSumEnd, IsSigned, flipped, signed};
+ghost use Rattle.gx_expr.specs.Eval.{of_two, sum_operation, product_operation};
+ghost use Rattle.gx_expr.specs.Descent.{IsSumSign, IsProductSign, IsSumEnd, IsSigned, flipped, signed};
 
 use crate::cursor::Cursor;
 use crate::{ExprFault, Value};
 
-// What stands between two operands.
+// What stands between two terms, or before a primary.
 #[derive(Clone, Copy)]
-pub enum Operator {
+pub enum SumSign {
     Plus,
     Minus,
+}
+
+// What stands between two factors.
+#[derive(Clone, Copy)]
+pub enum ProductSign {
     Times,
     Over,
 }
 
 // The `+` or `-` that is next, which is passed.
-pub fn sum_sign(text: &mut Cursor) -> Option<Operator>
+pub fn sum_sign(text: &mut Cursor) -> Option<SumSign>
     ensures { IsSumSign text.old text.new result }
 {
     if text.take(b'+') {
-        return Some(Operator::Plus);
+        return Some(SumSign::Plus);
     }
     if text.take(b'-') {
-        return Some(Operator::Minus);
+        return Some(SumSign::Minus);
     }
     None
 }
 
 // The `*` or `/` that is next, which is passed.
-pub fn product_sign(text: &mut Cursor) -> Option<Operator>
+pub fn product_sign(text: &mut Cursor) -> Option<ProductSign>
     ensures { IsProductSign text.old text.new result }
 {
     if text.take(b'*') {
-        return Some(Operator::Times);
+        return Some(ProductSign::Times);
     }
     if text.take(b'/') {
-        return Some(Operator::Over);
+        return Some(ProductSign::Over);
     }
     None
 }
@@ -54,12 +59,12 @@ pub fn signs(text: &mut Cursor) -> bool
 }
 
 // Whether the signs are a minus in all, with one more.
-fn flip(negative: bool, sign: Operator) -> bool
+fn flip(negative: bool, sign: SumSign) -> bool
     ensures { result ≡ flipped sign negative }
 {
     match sign {
-        Operator::Minus => !negative,
-        Operator::Plus | Operator::Times | Operator::Over => negative,
+        SumSign::Plus => negative,
+        SumSign::Minus => !negative,
     }
 }
 
@@ -73,20 +78,37 @@ pub fn opposite_if(negative: bool, a: Result<Value, ExprFault>) -> Result<Value,
     }
 }
 
-// What the operator makes of two values: the left one's fault, else the right one's, else what the operation gives.
-pub fn combined(
-    operator: Operator,
-    a: Result<Value, ExprFault>,
-    b: Result<Value, ExprFault>,
-) -> Result<Value, ExprFault>
-    ensures { result ≡ of_two (operation_of operator) a b }
-{
-    let a = a?;
-    let b = b?;
-    match operator {
-        Operator::Plus => a.add(&b),
-        Operator::Minus => a.sub(&b),
-        Operator::Times => a.mul(&b),
-        Operator::Over => a.div(&b),
+impl SumSign {
+    // The sum or the difference: the left one's fault, else the right one's, else what the operation gives.
+    pub fn join(
+        self,
+        a: Result<Value, ExprFault>,
+        b: Result<Value, ExprFault>,
+    ) -> Result<Value, ExprFault>
+        ensures { result ≡ of_two (sum_operation self) a b }
+    {
+        let a = a?;
+        let b = b?;
+        match self {
+            SumSign::Plus => a.add(&b),
+            SumSign::Minus => a.sub(&b),
+        }
+    }
+}
+
+impl ProductSign {
+    // The product or the quotient, likewise.
+    pub fn join(
+        self,
+        a: Result<Value, ExprFault>,
+        b: Result<Value, ExprFault>,
+    ) -> Result<Value, ExprFault>
+        ensures { result ≡ of_two (product_operation self) a b }
+    {
+        let (a, b) = (a?, b?);
+        match self {
+            ProductSign::Times => a.mul(&b),
+            ProductSign::Over => a.div(&b),
+        }
     }
 }

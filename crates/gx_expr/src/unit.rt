@@ -1,50 +1,81 @@
-ghost use Rattle.std.specs.Prelude.{◌≡◌, Ok};
-ghost use Rattle.gx_table.specs.Table.{number_in};
-ghost use Rattle.gx_expr.specs.Eval.{unit_of, found, units};
+ghost use Rattle.std.specs.Prelude.{◌≡◌};
+ghost use Rattle.std.specs.Option.{option_map};
+ghost use Rattle.gx_expr.specs.Unit.{value_of, value_of_unit, unit_in};
 
 use crate::{ExprFault, Value};
-use gx_table::{Entry, entry, find};
+use gx_table::{Entry, entry};
 
-const UNITS: [Entry; 15] = [
-    entry!(b"mm", 0),
-    entry!(b"millimeter", 0),
-    entry!(b"cm", 1),
-    entry!(b"centimeter", 1),
-    entry!(b"m", 2),
-    entry!(b"meter", 2),
-    entry!(b"km", 3),
-    entry!(b"kilometer", 3),
-    entry!(b"um", 4),
-    entry!(b"micrometer", 4),
-    entry!(b"nm", 5),
-    entry!(b"nanometer", 5),
-    entry!(b"angstrom", 6),
-    entry!(b"deg", 7),
-    entry!(b"degree", 7),
+// A unit's name, its value as a fraction of millimetres or degrees, and whether it is an angle.
+#[derive(Clone, Copy)]
+pub struct Unit {
+    pub name: Entry,
+    pub num: u32,
+    pub den: u32,
+    pub angle: bool,
+}
+
+macro_rules! unit {
+    ($name:literal, $num:literal, $den:literal, $angle:literal) => {
+        Unit {
+            name: entry!($name, 0),
+            num: $num,
+            den: $den,
+            angle: $angle,
+        }
+    };
+}
+
+const UNITS: [Unit; 15] = [
+    unit!(b"mm", 1, 1, false),
+    unit!(b"millimeter", 1, 1, false),
+    unit!(b"cm", 10, 1, false),
+    unit!(b"centimeter", 10, 1, false),
+    unit!(b"m", 1000, 1, false),
+    unit!(b"meter", 1000, 1, false),
+    unit!(b"km", 1000000, 1, false),
+    unit!(b"kilometer", 1000000, 1, false),
+    unit!(b"um", 1, 1000, false),
+    unit!(b"micrometer", 1, 1000, false),
+    unit!(b"nm", 1, 1000000, false),
+    unit!(b"nanometer", 1, 1000000, false),
+    unit!(b"angstrom", 1, 10000000, false),
+    unit!(b"deg", 1, 1, true),
+    unit!(b"degree", 1, 1, true),
 ];
 
-// A word's length or angle.
-pub fn unit(word: &[u8]) -> Result<Value, ExprFault>
-    ensures { result ≡ found ExprFault.UnknownUnit unit_of (number_in units word.now) }
-{
-    match find(&UNITS, word) {
-        None => Err(ExprFault::UnknownUnit),
-        Some(number) => unit_value(number),
+#[tactic(auto, using(crate::proofs::Casts::small))]
+impl Unit {
+    ghost use Rattle.std.specs.Str.{str_eq_ignore_ascii_case};
+
+    fn is(&self, word: &[u8]) -> bool
+        ensures { result ≡ str_eq_ignore_ascii_case self.now.name.text word.now }
+    {
+        self.name.same(word)
+    }
+
+    fn value(&self) -> Result<Value, ExprFault>
+        ensures { result ≡ value_of self.now }
+    {
+        Value::new(
+            i128::from(self.num),
+            i128::from(self.den),
+            !self.angle,
+            self.angle,
+        )
     }
 }
 
-#[tactic(auto, using(crate::proofs::Numbers::one_common, crate::proofs::Numbers::common_one))]
-fn unit_value(number: u8) -> Result<Value, ExprFault>
-    ensures { result ≡ Ok (unit_of number) }
+// A word's length or angle.
+pub fn unit_value(word: &[u8]) -> Result<Value, ExprFault>
+    ensures { result ≡ value_of_unit word.now }
 {
-    match number {
-        0 => Value::new(1, 1, true, false),
-        1 => Value::new(10, 1, true, false),
-        2 => Value::new(1000, 1, true, false),
-        3 => Value::new(1000000, 1, true, false),
-        4 => Value::new(1, 1000, true, false),
-        5 => Value::new(1, 1000000, true, false),
-        6 => Value::new(1, 10000000, true, false),
-        _ => Value::new(1, 1, false, true),
-    }
+    value_in(&UNITS, word).unwrap_or(Err(ExprFault::UnknownUnit))
+}
+
+// The value of the unit of this name, in any case of its letters.
+fn value_in<const N: usize>(units: &[Unit; N], word: &[u8]) -> Option<Result<Value, ExprFault>>
+    ensures { result ≡ option_map value_of (unit_in units.now word.now) }
+{
+    let unit = units.iter().find(|unit| unit.is(word))?;
+    Some(unit.value())
 }

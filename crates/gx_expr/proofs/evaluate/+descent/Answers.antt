@@ -3,11 +3,11 @@ use Rattle.gx_expr.proofs.evaluate.+descent.Goals as goal
 
 pub expr-returns-in_err-next-clause-read : goal.expr-returns-in_err-next-clause-read
 expr-returns-in_err-next-clause-read t c =
-    rw c.from_residual-in_err-next.ensures (expr_none _ _ _ _ _ _ _ c.loop-operator.invariant.0 c.in-Some.ensures c.in_err-next.ensures.read)
+    rw c.from_residual-in_err-next.ensures (expr_none _ _ _ _ _ _ _ c.loop-sign.invariant.0 c.in-Some.ensures c.in_err-next.ensures.read)
 
 pub term-returns-in_err-next-clause-read : goal.term-returns-in_err-next-clause-read
 term-returns-in_err-next-clause-read t c =
-    rw c.from_residual-in_err-next.ensures (term_none _ _ _ _ _ _ _ c.loop-operator.invariant c.in-Some.ensures c.in_err-next.ensures)
+    rw c.from_residual-in_err-next.ensures (term_none _ _ _ _ _ _ _ c.loop-sign.invariant c.in-Some.ensures c.in_err-next.ensures)
 
 pub factor-returns : goal.factor-returns
 factor-returns t c = rw c.opposite_if.ensures (factor_reads _ _ _ _ _ _ _ c.signs-negative.ensures.signs c.in_ok-value.ensures)

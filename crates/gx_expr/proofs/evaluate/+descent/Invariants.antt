@@ -14,14 +14,14 @@ decreases-factor l = 4 * length l.text.now + 1
 abbrev pub decreases-primary : goal.decreases-primary
 decreases-primary l = 4 * length l.text.now
 
-abbrev pub invariant-expr-loop-operator : goal.invariant-expr-loop-operator
-invariant-expr-loop-operator l = IsRead alone l.depth l.params l.fn.text l.value l.text × IsProductEnd l.text
+abbrev pub invariant-expr-loop-sign : goal.invariant-expr-loop-sign
+invariant-expr-loop-sign l = IsRead alone l.depth l.params l.fn.text l.value l.text × IsProductEnd l.text
 
-abbrev pub decreases-expr-loop-operator : goal.decreases-expr-loop-operator
-decreases-expr-loop-operator l = length l.text
+abbrev pub decreases-expr-loop-sign : goal.decreases-expr-loop-sign
+decreases-expr-loop-sign l = length l.text
 
-abbrev pub invariant-term-loop-operator : goal.invariant-term-loop-operator
-invariant-term-loop-operator l = IsRead after l.depth l.params l.fn.text l.value l.text
+abbrev pub invariant-term-loop-sign : goal.invariant-term-loop-sign
+invariant-term-loop-sign l = IsRead after l.depth l.params l.fn.text l.value l.text
 
-abbrev pub decreases-term-loop-operator : goal.decreases-term-loop-operator
-decreases-term-loop-operator l = length l.text
+abbrev pub decreases-term-loop-sign : goal.decreases-term-loop-sign
+decreases-term-loop-sign l = length l.text

@@ -8,4 +8,4 @@ returns c = λ depth.
     let number_not = sym c.begins_number.ensures ∙ c.if-begins_number.false in
     let some = sym c.is_empty-2.ensures ∙ c.if-is_empty-2.false in
     let word = c.run-word.ensures in
-    unit_read depth _ _ _ _ _ c.requires.end c.requires.opening missed.1 (rw missed.0 at number_not) (rw missed.0 at word.what) (rw missed.0 at word.rest) some c.unit.ensures
+    unit_read depth _ _ _ _ _ c.requires.end c.requires.opening missed.1 (rw missed.0 at number_not) (rw missed.0 at word.what) (rw missed.0 at word.rest) some c.unit_value.ensures
