@@ -28,3 +28,22 @@ corner x y z = record { x = x; y = y; z = z; w = pos 1 }
 faces_known : faces_of (box (minus 5) (pos 5)) ≡ face (pos 0) (pos 0) (minus 1) (pos 5) ∷ face (pos 0) (minus 1) (pos 0) (pos 5) ∷ face (minus 1) (pos 0) (pos 0) (pos 5) ∷ face (pos 1) (pos 0) (pos 0) (pos 5) ∷ face (pos 0) (pos 1) (pos 0) (pos 5) ∷ face (pos 0) (pos 0) (pos 1) (pos 5) ∷ []
 unfolding common_divisor
 faces_known = refl
+
+-- the boxes of half-lengths 5 at x = 0 and x = 9: four corners of each are in the other, and of each 16 segments cross a face of the other
+candidates_known : length (candidate_points (box (minus 5) (pos 5)) (box (pos 4) (pos 14))) ≡ 40
+unfolding common_divisor
+candidates_known = refl
+
+-- for each face the first of these points that isn't on it
+taken_known : taken_of (box (minus 5) (pos 5)) (box (pos 4) (pos 14)) ≡ Some (
+    corner (pos 5) (minus 5) (pos 5) ∷ corner (pos 5) (pos 5) (minus 5) ∷ corner (pos 5) (minus 5) (minus 5) ∷
+    corner (pos 4) (minus 5) (minus 5) ∷ corner (pos 5) (minus 5) (minus 5) ∷ corner (pos 5) (minus 5) (minus 5) ∷
+    corner (pos 5) (minus 5) (pos 5) ∷ corner (pos 5) (pos 5) (minus 5) ∷ corner (pos 5) (minus 5) (minus 5) ∷
+    corner (pos 5) (minus 5) (minus 5) ∷ corner (pos 5) (minus 5) (minus 5) ∷ corner (pos 5) (minus 5) (minus 5) ∷ [])
+unfolding common_divisor
+taken_known = refl
+
+-- two that touch in a face: no common point is strictly inside it
+touching_known : taken_of (box (minus 5) (pos 5)) (box (pos 5) (pos 15)) ≡ None
+unfolding common_divisor
+touching_known = refl
