@@ -39,28 +39,37 @@ corner_of ms q t = go t.same
     n : Vec4
     n = minors t.first t.second t.third
 
-    go : (q ≡ minors t.first t.second t.third) ⊎ (q ≡ opposite4 (minors t.first t.second t.third)) → IsCorner q t.first t.second t.third
-    go (inl e) = record {
-      first = ap (dot4 t.first) e ∙ dot4-minors_first t.first t.second t.third;
-      second = ap (dot4 t.second) e ∙ dot4-minors_second t.first t.second t.third;
-      third = ap (dot4 t.third) e ∙ dot4-minors_third t.first t.second t.third;
-      alone = λ x g p e1 e2 e3. ap (λ (v : Vec4). dot4 g v *ℤ dot4 p x) e ∙ at_three t.first t.second t.third g p x e1 e2 e3 ∙ sym (ap (λ (v : Vec4). dot4 p v *ℤ dot4 g x) e);
+    IsAt : Vec4 → Type 0
+    IsAt v = IsCorner v t.first t.second t.third
+
+    corner : IsAt n
+    corner = record {
+      first = dot4-minors_first t.first t.second t.third;
+      second = dot4-minors_second t.first t.second t.third;
+      third = dot4-minors_third t.first t.second t.third;
+      alone = λ x g p. at_three t.first t.second t.third g p x;
     }
-    go (inr e) = record {
-      first = omega (arith, ints, ap (dot4 t.first) e, dot4-opposite4 t.first n, dot4-minors_first t.first t.second t.third);
-      second = omega (arith, ints, ap (dot4 t.second) e, dot4-opposite4 t.second n, dot4-minors_second t.first t.second t.third);
-      third = omega (arith, ints, ap (dot4 t.third) e, dot4-opposite4 t.third n, dot4-minors_third t.first t.second t.third);
-      alone = λ x g p e1 e2 e3. ap (λ (v : Vec4). dot4 g v *ℤ dot4 p x) e ∙ flip g n p x ∙ ap (λ (z : ℤ). pos 0 -ℤ z) (at_three t.first t.second t.third g p x e1 e2 e3) ∙ sym (flip p n g x) ∙ sym (ap (λ (v : Vec4). dot4 p v *ℤ dot4 g x) e);
+
+    opposite : IsAt (opposite4 n)
+    opposite = record {
+      first = omega (arith, ints, dot4-opposite4 t.first n, corner.first);
+      second = omega (arith, ints, dot4-opposite4 t.second n, corner.second);
+      third = omega (arith, ints, dot4-opposite4 t.third n, corner.third);
+      alone = λ x g p e1 e2 e3. omega (arith, ints, flip g n p x, flip p n g x, corner.alone x g p e1 e2 e3);
     }
       where
         flip : (g n p x : Vec4) → dot4 g (opposite4 n) *ℤ dot4 p x ≡ pos 0 -ℤ dot4 g n *ℤ dot4 p x
         flip = identity (vector4 ∷ vector4 ∷ vector4 ∷ vector4 ∷ []) (λ g n p x. term.dot4 g (term.opposite4 n) ⊗ term.dot4 p x ≣ none ⊖ term.dot4 g n ⊗ term.dot4 p x) tt
 
+    go : (q ≡ n) ⊎ (q ≡ opposite4 n) → IsAt q
+    go (inl e) = subst IsAt (sym e) corner
+    go (inr e) = subst IsAt (sym e) opposite
+
 -- the three in another order
 turn_corner : (q m1 m2 m3 : Vec4) → IsCorner q m1 m2 m3 → IsCorner q m2 m3 m1
 turn_corner q m1 m2 m3 c = record { first = c.second; second = c.third; third = c.first; alone = λ x g p e2 e3 e1. c.alone x g p e1 e2 e3 }
 
--- a proper point on the same three members is as the corner is
+-- at least 0 with all members, and above 0 with g
 record IsGood (ms : List Vec4) (g x : Vec4) : Type 0 where
   above : IsAbove ms x
   strict : pos 0 <ℤ dot4 g x
@@ -68,6 +77,7 @@ record IsGood (ms : List Vec4) (g x : Vec4) : Type 0 where
 w_is : (x : Vec4) → dot4 unit_w x ≡ x.w
 w_is x = omega (arith, ints)
 
+-- a proper point on the same three members is as the corner is
 same_ray : (ms : List Vec4) (g q m1 m2 m3 x : Vec4) → IsCorner q m1 m2 m3 → IsBeyond ms g q → pos 0 <ℤ q.w → pos 0 <ℤ x.w → dot4 m1 x ≡ pos 0 → dot4 m2 x ≡ pos 0 → dot4 m3 x ≡ pos 0 → IsGood ms g x
 same_ray ms g q m1 m2 m3 x c is qw xw e1 e2 e3 = record {
   above = All-weaker (λ m. pos 0 ≤ℤ dot4 m q) (λ m. pos 0 ≤ℤ dot4 m x) (λ m k. nonneg_of_mul (dot4 g q) (dot4 m x) is.beyond (omega (arith, ints, c.alone x g m e1 e2 e3, mul_nonneg (dot4 m q) (dot4 g x) k (omega (arith, ints, up))))) ms is.above;
@@ -114,18 +124,14 @@ some_low m p ps e = go (every_or P ((u : V3) × Contains (p ∷ ps) u × (dot4 m
 
 -- ---- candidates
 crossing_swap : (h : HalfSpace) (p q : V3) → crossing h p q ≡ crossing h q p
-crossing_swap h p q =
-    same (side_of h p) (side_of h q)
+crossing_swap h p q = same (side_of h p) (side_of h q)
   where
-    mixed_swap : (k l : ℕ) → mixed k p l q ≡ mixed l q k p
-    mixed_swap k l = swap k l p q
-      where
-        swap : (k l : ℕ) (p q : V3) → mixed k p l q ≡ mixed l q k p
-        swap = identity4 (natural ∷ natural ∷ vector3 ∷ vector3 ∷ []) (λ k l p q. record { x = k ⊗ p.x ⊕ l ⊗ q.x; y = k ⊗ p.y ⊕ l ⊗ q.y; z = k ⊗ p.z ⊕ l ⊗ q.z; w = k ⊕ l } ≣⁴ record { x = l ⊗ q.x ⊕ k ⊗ p.x; y = l ⊗ q.y ⊕ k ⊗ p.y; z = l ⊗ q.z ⊕ k ⊗ p.z; w = l ⊕ k }) tt
+    mixed_swap : (k l : ℕ) (p q : V3) → mixed k p l q ≡ mixed l q k p
+    mixed_swap = identity4 (natural ∷ natural ∷ vector3 ∷ vector3 ∷ []) (λ k l p q. record { x = k ⊗ p.x ⊕ l ⊗ q.x; y = k ⊗ p.y ⊕ l ⊗ q.y; z = k ⊗ p.z ⊕ l ⊗ q.z; w = k ⊕ l } ≣⁴ record { x = l ⊗ q.x ⊕ k ⊗ p.x; y = l ⊗ q.y ⊕ k ⊗ p.y; z = l ⊗ q.z ⊕ k ⊗ p.z; w = l ⊕ k }) tt
 
     same : (s t : ℤ) → cond (int_lt (s *ℤ t) (pos 0)) (Some (mixed (unsigned_abs t) p (unsigned_abs s) q)) None ≡ cond (int_lt (t *ℤ s) (pos 0)) (Some (mixed (unsigned_abs s) q (unsigned_abs t) p)) None
     same s t =
-        ap (λ (z : ℤ). cond (int_lt z (pos 0)) (Some (mixed (unsigned_abs t) p (unsigned_abs s) q)) None) (mul_comm s t) ∙ ap (λ (v : Vec4). cond (int_lt (t *ℤ s) (pos 0)) (Some v) None) (mixed_swap (unsigned_abs t) (unsigned_abs s))
+        ap (λ (z : ℤ). cond (int_lt z (pos 0)) (Some (mixed (unsigned_abs t) p (unsigned_abs s) q)) None) (mul_comm s t) ∙ ap (λ (v : Vec4). cond (int_lt (t *ℤ s) (pos 0)) (Some v) None) (mixed_swap (unsigned_abs t) (unsigned_abs s) p q)
 
 crossing_some : (h : HalfSpace) (p q : V3) → (side_of h p *ℤ side_of h q) <ℤ pos 0 → crossing h p q ≡ Some (mixed (unsigned_abs (side_of h q)) p (unsigned_abs (side_of h p)) q)
 crossing_some h p q lt =

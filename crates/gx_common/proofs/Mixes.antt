@@ -65,6 +65,7 @@ abbrev pub total : List V3 → Vec4
 total [] = origin
 total (p ∷ ps) = plus4 (point_of p) (total ps)
 
+-- a positive multiple of the point is a sum of listed points, some more than once
 pub record IsMix (a : List V3) (p : Vec4) : Type 0 where
   pub multiple : ℕ
   pub positive : 0 < multiple
@@ -72,6 +73,7 @@ pub record IsMix (a : List V3) (p : Vec4) : Type 0 where
   pub in_list : All (Contains a) parts
   pub sum : times4 (pos multiple) p ≡ total parts
 
+-- p so many times, before the rest
 abbrev repeated : ℕ → V3 → List V3 → List V3
 repeated zero p ps = ps
 repeated (suc k) p ps = p ∷ repeated k p ps
@@ -91,6 +93,7 @@ All-repeated : (P : V3 → Type 0) (k : ℕ) (p : V3) (ps : List V3) → P p →
 All-repeated P zero p ps h k = k
 All-repeated P (suc n) p ps h k = All-cons P p (repeated n p ps) h (All-repeated P n p ps h k)
 
+-- each point as often as the list of numbers says
 abbrev listed : List ℕ → List V3 → List V3
 listed (k ∷ ks) (p ∷ ps) = repeated k p (listed ks ps)
 listed [] ps = []

@@ -20,7 +20,7 @@ pub record IsReached (points : List Vec4) (face : HalfSpace) : Type 0 where
 abbrev pub AreReached : List V3 → List V3 → Type 0
 AreReached a b = All (IsReached (candidate_points a b)) (faces_of a ++ faces_of b)
 
--- a point is strictly inside all these half-spaces and all those
+-- a point inside both solids
 pub record IsInsideBoth (solid other : List HalfSpace) : Type 0 where
   pub point : Vec4
   pub proper : pos 0 <ℤ point.w
@@ -35,6 +35,7 @@ pub record AreAlternatives (a b : List V3) : Type 0 where
   pub meet : IsInsideBoth (faces_of a) (faces_of b) ↔ AreReached a b
   pub given : ((points : List Vec4) × (taken_of a b ≡ Some points)) ↔ AreReached a b
 
+-- so it is for any two lists of points that aren't coplanar
 abbrev pub Alternatives : Type 0
 Alternatives = (a b : List V3) → are_coplanar a ≡ false → are_coplanar b ≡ false → AreAlternatives a b
 
@@ -45,5 +46,6 @@ pub record AreSolidsApart (solid other : List HalfSpace) (a b : List V3) : Type 
   pub given : IsInsideBoth solid other ↔ ((points : List Vec4) × (taken_of a b ≡ Some points))
   pub between : (h : HalfSpace) → first_between a b ≡ Some h → (p : Vec4) → pos 0 <ℤ p.w → (IsTrue (is_in solid p) → IsAtMost h p) × (IsTrue (is_in other p) → IsAtMost (flipped h) p)
 
+-- so it is for any two solids
 abbrev pub SolidsApart : Type 0
 SolidsApart = (solid other : List HalfSpace) (a b : List V3) → are_coplanar a ≡ false → are_coplanar b ≡ false → IsHullOf solid a → IsHullOf other b → AreSolidsApart solid other a b

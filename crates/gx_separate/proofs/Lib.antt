@@ -1,2 +1,2 @@
-mod Boxes
+mod AxisPlanes
 mod KnownPlanes

@@ -10,6 +10,8 @@ use gx_plane::Plane;
 pub fn between_boxes(a: Extent, b: Extent) -> Option<Plane>
     requires low { IsWithin reach a.low }
     requires high { IsWithin reach a.high }
+    requires other_low { IsWithin reach b.low }
+    requires other_high { IsWithin reach b.high }
     ensures { result ≡ between_boxes a b }
 {
     let x = between_ranges(0, a.low.x, a.high.x, b.low.x, b.high.x);

@@ -138,6 +138,15 @@ find-axis_planes (p ∷ ps) (q ∷ qs) e f = x ∙ ap (option_or (between_ranges
     z =
         find_two 2 (λ q. q.z) (λ a b. refl) (λ a b. refl) (λ q. omega (arith, ints)) p ps q qs [] ∙ or_none (between_ranges 2 l.z h.z m.z k.z)
 
-pub first_between-boxes : (a b : List V3) → are_coplanar a ≡ false → are_coplanar b ≡ false → first_between a b ≡ option_or (between_boxes (extent_of a) (extent_of b)) (find (is_between a b) (candidates (a ++ b)))
+first_between-boxes : (a b : List V3) → are_coplanar a ≡ false → are_coplanar b ≡ false → first_between a b ≡ option_or (between_boxes (extent_of a) (extent_of b)) (find (is_between a b) (candidates (a ++ b)))
 first_between-boxes a b e f =
     find-append (is_between a b) (axis_planes (extent_of a)) (candidates (a ++ b)) ∙ ap (λ (o : Option HalfSpace). option_or o (find (is_between a b) (candidates (a ++ b)))) (find-axis_planes a b e f)
+
+-- what is found along an axis is the first of all; where nothing is, the first is through three points
+pub found : (a b : List V3) (r : Option HalfSpace) (h : HalfSpace) → are_coplanar a ≡ false → are_coplanar b ≡ false → r ≡ between_boxes (extent_of a) (extent_of b) → r ≡ Some h → Some h ≡ first_between a b
+found a b r h e f is some =
+    sym (first_between-boxes a b e f ∙ ap (λ (o : Option HalfSpace). option_or o (find (is_between a b) (candidates (a ++ b)))) (sym is ∙ some))
+
+pub not_found : (a b : List V3) (r : Option HalfSpace) → are_coplanar a ≡ false → are_coplanar b ≡ false → r ≡ between_boxes (extent_of a) (extent_of b) → r ≡ None → find (is_between a b) (candidates (a ++ b)) ≡ first_between a b
+not_found a b r e f is none =
+    sym (first_between-boxes a b e f ∙ ap (λ (o : Option HalfSpace). option_or o (find (is_between a b) (candidates (a ++ b)))) (sym is ∙ none))
