@@ -1,5 +1,5 @@
 ghost use Rattle.std.specs.Prelude.{◌≡◌, ◌<◌, ◌≤◌, ◌^◌, ◌≢◌, pos, unsigned_abs, ◌<ℤ◌, ◌+ℤ◌, ◌-ℤ◌, ◌*ℤ◌};
-ghost use Rattle.gx_expr.specs.Narrow.{IsNarrow};
+ghost use Rattle.gx_expr.specs.Quantity.{IsNarrow};
 
 use crate::ExprFault;
 use crate::product::times;
@@ -16,8 +16,7 @@ pub struct Value {
 }
 
 impl Model for Value {
-    ghost use Rattle.gx_expr.specs.Narrow.{IsNarrow};
-    ghost use Rattle.gx_expr.specs.Quantity.{Quantity};
+    ghost use Rattle.gx_expr.specs.Quantity.{IsNarrow, Quantity};
 
     ghost Value = { Quantity };
 
