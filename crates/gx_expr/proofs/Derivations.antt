@@ -6,9 +6,8 @@ use Rattle.std.proofs.lemmas.Option.{none-some}
 use Rattle.gx_expr.specs.declared.operator.SumSign.{SumSign}
 use Rattle.gx_expr.specs.declared.operator.ProductSign.{ProductSign}
 use Rattle.gx_expr.specs.Descent.{after}
-use Rattle.gx_expr.specs.Grammar.{IsExpr, term, more_terms, IsTerm, factor, more_factors, IsFactor, primary, more_signs, IsPrimary, alone, parentheses, Derives}
+use Rattle.gx_expr.specs.Tree.{IsExpr, term, more_terms, IsTerm, factor, more_factors, IsFactor, primary, more_signs, IsPrimary, alone, parentheses, Derives, Tree, leaf, sum, with_sign, max_open, Context, same, first, signed_by, term_of, whole_of, next_term, next_factor, tree_from, tree_of_tokens, tree_of}
 use Rattle.gx_expr.specs.Token.{Token, operand, sum_sign, product_sign, opening, closing, tokens_of}
-use Rattle.gx_expr.specs.Tree.{Tree, leaf, sum, with_sign, max_open, Context, same, first, signed_by, term_of, whole_of, next_term, next_factor, tree_from, tree_of_tokens, tree_of}
 use Rattle.gx_expr.proofs.Trees.{one_term, EndsTerm, one_sum}
 
 -- ---- what is derived is read

@@ -13,19 +13,16 @@ use Rattle.gx_expr.specs.Param.{Param}
 use Rattle.gx_expr.specs.Token.{tokens_of, Token}
 use Rattle.gx_expr.specs.Tree.{Tree, tree_of, tree_of_tokens, sum, product, with_sign, Context, same, first, signed_by, next_factor}
 use Rattle.gx_expr.specs.Quantity.{Quantity, opposite_of}
-use Rattle.gx_expr.proofs.Trees.{none-opening, none-inside, none-outside, on-end, on-sign, on-sum_sign, on-product_sign, on-opening, on-closing, on-term, on-signed, on-sum}
+use Rattle.gx_expr.proofs.Trees.{none-opening, none-inside, none-after, on-end, on-sign, on-sum_sign, on-product_sign, on-opening, on-closing, on-term, on-signed, on-sum}
 
 -- ---- signs
 
 pub signs_none : (s : List ℕ) → IsSigned s s false
 signs_none s = record { tree = λ t. t; gives = λ params t. refl; longer = omega arith; front = λ outer here. refl }
 
-twice_neg : (n : ℤ) → neg_ℤ (neg_ℤ n) ≡ n
-twice_neg n = omega (arith, ints)
-
 twice_opposite : (r : Result Quantity ExprFault) → of_one opposite_of (of_one opposite_of r) ≡ r
 twice_opposite (Err fault) = refl
-twice_opposite (Ok a) = ap (λ (n : ℤ). let w : Quantity = record { number = record { num = n; den = a.number.den }; length = a.length; angle = a.angle } in Ok w) (twice_neg a.number.num)
+twice_opposite (Ok a) = ap (λ (n : ℤ). let w : Quantity = record { number = record { num = n; den = a.number.den }; length = a.length; angle = a.angle } in Ok w) (let e : neg_ℤ (neg_ℤ a.number.num) ≡ a.number.num = omega (arith, ints) in e)
 
 flip-signed : (negative : Bool) (r : Result Quantity ExprFault) → signed negative (of_one opposite_of r) ≡ signed (not negative) r
 flip-signed true r = twice_opposite r
@@ -145,4 +142,4 @@ module _ (params : List Param) (word : List ℕ) where
   pub word_more : (new : List ℕ) (value : Result Quantity ExprFault) → IsRead alone 0 params word value new → IsSumEnd new → IsProductEnd new → new ≢ [] → Err Syntax ≡ value_of_word params word
   unfolding value_of_word
   word_more [] value r sums products h = absurd (h refl)
-  word_more (b ∷ s) value r sums products h = sym (ap (value_of_tree params) (on-word word ∙ r.front [] tt refl ∙ none-outside first r.tree b s sums products))
+  word_more (b ∷ s) value r sums products h = sym (ap (value_of_tree params) (on-word word ∙ r.front [] tt refl ∙ none-after [] first r.tree b s sums products (λ ps e. refl)))

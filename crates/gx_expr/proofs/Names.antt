@@ -1,5 +1,6 @@
 -- The list of parameters that a map's entries are.
 use Rattle.std.proofs.Common.{◌≡◌, ℕ, List, [], ◌∷◌, ◌++◌, map, cond, None, Some, refl, ap, ◌∙◌}
+use Rattle.std.proofs.lemmas.List.{map-append}
 use Rattle.std.specs.Map.{lookup}
 use Rattle.std.specs.Str.{bytes_eq}
 use Rattle.gx_expr.specs.declared.value.Value.{Value}
@@ -13,13 +14,9 @@ module _ {K : Type 0} (items : K → List ℕ) where
   value_of_name-params_of name [] = refl
   value_of_name-params_of name (e ∷ es) = ap (λ r. cond (bytes_eq name (items e.0)) (Some e.1) r) (value_of_name-params_of name es)
 
-  pub params_of-append : (es fs : List (K × Value)) → params_of (es ++ fs) ≡ params_of es ++ params_of fs
-  params_of-append [] fs = refl
-  params_of-append (e ∷ es) fs = ap (λ r. record { name = items e.0; value = e.1 } ∷ r) (params_of-append es fs)
-
 -- a new name goes last
 pub defined : {K : Type 0} (items : K → List ℕ) (es new : List (K × Value)) (old : List Param) (key : K) (name : List ℕ) (value : Value)
     → params_of items es ≡ old → items key ≡ name → new ≡ es ++ (key, value) ∷ [] → value_of_name old name ≡ None → IsDefined old name value (params_of items new) (value_of_name old name)
 defined items es new old key name value view is whole none =
     let last : record { name = items key; value = value } ≡ record { name = name; value = value } = ap (λ n. record { name = n; value = value }) is in
-    rw none (ap (params_of items) whole ∙ params_of-append items es ((key, value) ∷ []) ∙ ap (λ ps. ps ++ record { name = items key; value = value } ∷ []) view ∙ ap (λ p. old ++ p ∷ []) last)
+    rw none (ap (params_of items) whole ∙ map-append (λ e. record { name = items e.0; value = e.1 }) es ((key, value) ∷ []) ∙ ap (λ ps. ps ++ record { name = items key; value = value } ∷ []) view ∙ ap (λ p. old ++ p ∷ []) last)

@@ -39,9 +39,6 @@ few_digits n count h g = omega (arith, pow-le-pow_right {n = 10} (omega arith) g
 pub common_one : (n : ℕ) → common_divisor (1 ∷ n ∷ []) ≡ 1
 common_one n = common_divisor-same (1 ∷ n ∷ []) 1 (IsDivisor-two 1 n 1 (IsGcd-swap n 1 1 (IsGcd-from_mod n 1 1 (IsGcd-from_zero 1 (n % 1) (omega arith)))))
 
-pub one_common : (n : ℕ) → common_divisor (n ∷ 1 ∷ []) ≡ 1
-one_common n = common_divisor-same (n ∷ 1 ∷ []) 1 (IsDivisor-two n 1 1 (IsGcd-from_mod n 1 1 (IsGcd-from_zero 1 (n % 1) (omega arith))))
-
 lowest_whole : (n : ℤ) → lowest n 1 ≡ record { num = n; den = 1 }
 lowest_whole (pos n) = rw (common_one n) (ap (λ (x : ℕ). let f : Fraction = record { num = pos x; den = 1 } in f) (div-one n))
 lowest_whole (negsuc n) = rw (common_one (suc n)) (ap (λ (x : ℕ). let f : Fraction = record { num = neg_ℤ (pos x); den = 1 } in f) (div-one (suc n)))

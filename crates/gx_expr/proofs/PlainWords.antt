@@ -1,9 +1,9 @@
 -- Words that are a few digits, with or without a sign.
-use Rattle.std.proofs.Common.{◌≡◌, ℕ, ◌+◌, ◌-◌, ◌*◌, ◌<◌, ◌≤◌, ◌^◌, ◌==◌, pos, neg_ℤ, ℤ, ◌+ℤ◌, Bool, true, false, List, [], ◌∷◌, length, take, drop, Option, None, Some, nat_lt, refl, sym, ap, ◌∙◌, arith, zero-mul, inl, inr, append-nil, length-drop, length-take}
+use Rattle.std.proofs.Common.{◌≡◌, ℕ, ◌+◌, ◌-◌, ◌*◌, ◌<◌, ◌≤◌, ◌^◌, ◌==◌, pos, neg_ℤ, ℤ, ◌+ℤ◌, Bool, not, ◌&&◌, true, false, List, [], ◌∷◌, length, take, drop, Option, None, Some, nat_lt, refl, sym, ap, ◌∙◌, arith, zero-mul, inl, inr, append-nil, length-drop, length-take}
 use Rattle.std.specs.List.{list_all, prefix_len}
 use Rattle.std.specs.Option.{option_map}
 use Rattle.std.proofs.Math.Nat.{pow-le-pow_right}
-use Rattle.std.proofs.lemmas.Bool.{and_parts, cases_Bool, eqb-true, eqb-false, ltb-false, le-ltb}
+use Rattle.std.proofs.lemmas.Bool.{and_parts, cases_Bool, eqb-true, eqb-false, ltb-false, le-ltb, not-true}
 use Rattle.std.proofs.lemmas.Int.{ints}
 use Rattle.std.proofs.lemmas.List.{take_all, drop_all}
 use Rattle.std.proofs.lemmas.Option.{none-some}
@@ -69,18 +69,13 @@ record IsFew (s : List ℕ) (n : ℕ) : Type 0 where
   value : value_of_digits s ≡ n
 
 few_parts : (s : List ℕ) (n : ℕ) → few_digits s ≡ Some n → IsFew s n
-few_parts s n e = elim (cases_Bool (length s == 0)) [
-  | inl none ↦ absurd (none-some n (rw none at e))
-  | inr some ↦ elim (cases_Bool (nat_lt 9 (length s))) [
-    | inl many ↦ absurd (none-some n (rw (some, many) at e))
-    | inr few ↦ elim (cases_Bool (list_all is_ascii_digit s)) [
-      | inl digits ↦
-          let above = eqb-false (length s) 0 some in
-          let value : Some (value_of_digits s) ≡ Some n = rw (some, few, digits) at e in
-          record { some = omega (arith, above); few = ltb-false 9 (length s) few; digits = digits; value = cc }
-      | inr other ↦ absurd (none-some n (rw (some, few, other) at e))
-    ]
-  ]
+few_parts s n e = elim (cases_Bool (not (length s == 0) && not (nat_lt 9 (length s)) && list_all is_ascii_digit s)) [
+  | inl all ↦
+      let both = and_parts (not (length s == 0) && not (nat_lt 9 (length s))) (list_all is_ascii_digit s) all in
+      let size = and_parts (not (length s == 0)) (not (nat_lt 9 (length s))) both.0 in
+      let value : Some (value_of_digits s) ≡ Some n = rw all at e in
+      record { some = omega (arith, eqb-false (length s) 0 (not-true (length s == 0) size.0)); few = ltb-false 9 (length s) (not-true (nat_lt 9 (length s)) size.1); digits = both.1; value = cc }
+  | inr other ↦ absurd (none-some n (rw other at e))
 ]
 
 module _ (params : List Param) (word : List ℕ) (negative : Bool) (n : ℕ) where

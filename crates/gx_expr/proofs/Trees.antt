@@ -12,11 +12,8 @@ use Rattle.gx_expr.proofs.Tokens.{tokens_of-step, tokens_of-none, IsAt, IsOf, to
 
 -- ---- one more token
 
--- what a token does at a place: the tree is that at another place
-abbrev Leads : List Context → Context → Option Tree → Token → List Context → Context → Option Tree → Type 0
-Leads outer here t token outer' here' u = (o : Option (List Token)) → tree_after outer here t (in_front token o) ≡ tree_after outer' here' u o
-
-leads : (outer outer' : List Context) (here here' : Context) (t u : Option Tree) (token : Token) → ((ps : List Token) → tree_from outer here t (token ∷ ps) ≡ tree_from outer' here' u ps) → Leads outer here t token outer' here' u
+-- where a token leads: the tree is that at another place
+leads : (outer outer' : List Context) (here here' : Context) (t u : Option Tree) (token : Token) → ((ps : List Token) → tree_from outer here t (token ∷ ps) ≡ tree_from outer' here' u ps) → (o : Option (List Token)) → tree_after outer here t (in_front token o) ≡ tree_after outer' here' u o
 leads outer outer' here here' t u token h None = refl
 leads outer outer' here here' t u token h (Some ps) = h ps
 
@@ -49,9 +46,8 @@ module _ (outer : List Context) (here : Context) where
   pub on-opening : (s : List ℕ) → nat_lt (length outer) 64 ≡ true → tree_on outer here None (40 ∷ s) ≡ tree_on (here ∷ outer) first None s
   on-opening s e = on-token (here ∷ outer) first None None opening (40 ∷ s) s (tokens_of-step 40 s 0 opening refl) (λ ps. rw e refl)
 
-  pub on-closing : (inside : Context) (t : Tree) (s : List ℕ) → tree_on (here ∷ outer) inside (Some t) (41 ∷ s) ≡ tree_on outer here (Some (whole_of inside t)) s
-  unfolding tree_on
-  on-closing inside t s = ap (tree_after (here ∷ outer) inside (Some t)) (tokens_of-step 41 s 0 closing refl) ∙ leads (here ∷ outer) outer inside here (Some t) (Some (whole_of inside t)) closing (λ ps. refl) (tokens_of s)
+pub on-closing : (outer : List Context) (here inside : Context) (t : Tree) (s : List ℕ) → tree_on (here ∷ outer) inside (Some t) (41 ∷ s) ≡ tree_on outer here (Some (whole_of inside t)) s
+on-closing outer here inside t s = on-token (here ∷ outer) inside outer here (Some t) (Some (whole_of inside t)) closing (41 ∷ s) s (tokens_of-step 41 s 0 closing refl) (λ ps. refl)
 
 -- ---- no tree
 
@@ -95,17 +91,15 @@ module _ (here : Context) (t : Tree) (f : ℕ → Option (List Token)) (b : ℕ)
     | closing ↦ λ k. never outer here (Some t) closing (λ ps. h ps k) (f part.size)
   ] k
 
+pub none-after : (outer : List Context) (here : Context) (t : Tree) (b : ℕ) (s : List ℕ) → IsSumEnd (b ∷ s) → IsProductEnd (b ∷ s) → ((ps : List Token) → b ≡ 41 → tree_from outer here (Some t) (closing ∷ ps) ≡ None) → tree_on outer here (Some t) (b ∷ s) ≡ None
+unfolding tree_on
+none-after outer here t b s sums products h = never-ended here t (λ size. tokens_from (size - 1) s) b s sums products outer h (token_at (b ∷ s)) (token_at-IsAt b s)
+
 -- where only leaves, parentheses and nothing may follow, no tree ends
 pub none-inside : (outer : List Context) (here around : Context) (t : Tree) (s : List ℕ) → IsSumEnd s → IsProductEnd s → begins 41 s ≡ false → tree_on (around ∷ outer) here (Some t) s ≡ None
 unfolding tree_on
 none-inside outer here around t [] sums products closing_not = refl
-none-inside outer here around t (b ∷ s) sums products closing_not =
-    never-ended here t (λ size. tokens_from (size - 1) s) b s sums products (around ∷ outer) (λ ps e. absurd (eqb-false b 41 closing_not e)) (token_at (b ∷ s)) (token_at-IsAt b s)
-
-pub none-outside : (here : Context) (t : Tree) (b : ℕ) (s : List ℕ) → IsSumEnd (b ∷ s) → IsProductEnd (b ∷ s) → tree_on [] here (Some t) (b ∷ s) ≡ None
-unfolding tree_on
-none-outside here t b s sums products =
-    never-ended here t (λ size. tokens_from (size - 1) s) b s sums products [] (λ ps e. refl) (token_at (b ∷ s)) (token_at-IsAt b s)
+none-inside outer here around t (b ∷ s) sums products closing_not = none-after (around ∷ outer) here t b s sums products (λ ps e. absurd (eqb-false b 41 closing_not e))
 
 -- ---- places that are one
 

@@ -32,6 +32,7 @@ Takes byte old new false = (new ≡ old) × (begins byte old ≡ false)
 
 -- ---- operators
 
+-- the byte that a sign is
 abbrev pub sum_byte : SumSign → ℕ
 sum_byte Plus = 43
 sum_byte Minus = 45

@@ -1,5 +1,5 @@
 -- How a number is told from its digits. No public contract stands on this file.
-use Rattle.std.specs.Prelude.{◌≡◌, ℕ, ◌+◌, ◌-◌, ◌*◌, ◌≤◌, ◌^◌, ◌==◌, ℤ, pos, neg_ℤ, min, Bool, true, false, nat_le, nat_lt, if◌then◌else◌, List, [], ◌∷◌, length, drop, Option, None, Some, Result, Err}
+use Rattle.std.specs.Prelude.{◌≡◌, ℕ, ◌+◌, ◌-◌, ◌*◌, ◌≤◌, ◌^◌, ◌==◌, ℤ, pos, neg_ℤ, min, Bool, not, ◌&&◌, true, false, nat_le, nat_lt, if◌then◌else◌, List, [], ◌∷◌, length, drop, Option, None, Some, Result, Err}
 use Rattle.gx_expr.specs.declared.digits.Digits.{Digits}
 use Rattle.gx_expr.specs.declared.exponent.Power.{Power}
 use Rattle.gx_expr.specs.declared.exponent.TheConstants.{MAX_SIZE}
@@ -49,7 +49,7 @@ pub record IsPower (part : Part ℤ) (power : Power) : Type 0 where
 
 -- the value of 1 to 9 digits
 abbrev pub few_digits : List ℕ → Option ℕ
-few_digits s = if length s == 0 then None else if nat_lt 9 (length s) then None else if list_all is_ascii_digit s then Some (value_of_digits s) else None
+few_digits s = if not (length s == 0) && not (nat_lt 9 (length s)) && list_all is_ascii_digit s then Some (value_of_digits s) else None
 
 -- the number that a word of 1 to 9 digits is, with or without `-` (45) before them
 abbrev pub plain_number : List ℕ → Option ℤ

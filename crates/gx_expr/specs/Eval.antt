@@ -60,6 +60,7 @@ of_two operation (Err fault) b = Err fault
 of_two operation (Ok a) (Err fault) = Err fault
 of_two operation (Ok a) (Ok b) = operation a b
 
+-- what a sign between terms does, and one between factors
 abbrev pub sum_operation : SumSign → Quantity → Quantity → Result Quantity ExprFault
 sum_operation Plus = sum_of
 sum_operation Minus = difference_of

@@ -2,8 +2,7 @@
 use Rattle.std.specs.Prelude.{◌≡◌, ℤ, pos, ◌*ℤ◌, ◌<ℤ◌, ◌<◌, ◌↔◌, ℕ, List, Some}
 use Rattle.gx_fraction.specs.Fraction.{Fraction}
 use Rattle.gx_expr.specs.Convert.{whole_ratio}
-use Rattle.gx_expr.specs.Grammar.{Derives}
-use Rattle.gx_expr.specs.Tree.{Tree, tree_of}
+use Rattle.gx_expr.specs.Tree.{Tree, tree_of, Derives}
 
 -- n times b is a, crosswise
 abbrev pub IsTimes : ℤ → Fraction → Fraction → Type 0

@@ -2,8 +2,6 @@ pub mod Convert
 pub mod Descent
 pub mod Digits
 pub mod Eval
-pub mod Grammar
-pub mod Narrow
 pub mod Laws
 pub mod Param
 pub mod Token

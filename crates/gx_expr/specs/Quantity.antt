@@ -1,6 +1,7 @@
 -- Values of expressions: fractions with marks, and their sums, differences, products and quotients.
-use Rattle.std.specs.Prelude.{ℕ, ℤ, pos, neg_ℤ, ◌*ℤ◌, ◌+ℤ◌, ◌-ℤ◌, ◌^◌, unsigned_abs, int_lt, nat_lt, Bool, ◌||◌, Result, Ok, Err, if◌then◌else◌}
+use Rattle.std.specs.Prelude.{◌≤◌, ◌<ℤ◌, ℕ, ℤ, pos, neg_ℤ, ◌*ℤ◌, ◌+ℤ◌, ◌-ℤ◌, ◌^◌, unsigned_abs, int_lt, nat_lt, Bool, ◌||◌, Result, Ok, Err, if◌then◌else◌}
 use Rattle.std.specs.Ordering.{int_eq}
+use Rattle.gx_num.specs.Number.{IsLowest}
 use Rattle.gx_fraction.specs.Fraction.{Fraction, lowest, opposite}
 use Rattle.gx_expr.specs.declared.fault.ExprFault.{ExprFault}
 use Rattle.gx_expr.specs.declared.fault.ExprFault.TheVariants.{DivideByZero, TooWide}
@@ -54,3 +55,14 @@ quotient_of a b = ratio_of (a.number.num *ℤ pos b.number.den) (b.number.num *�
 -- the opposite, which is never too wide
 abbrev pub opposite_of : Quantity → Quantity
 opposite_of a = record { number = opposite a.number; length = a.length; angle = a.angle }
+
+-- in lowest terms, with the numerator's magnitude and the denominator at most 2^62
+pub record IsNarrow (f : Fraction) : Type 0 where
+  pub lowest : IsLowest (unsigned_abs f.num) f.den
+  pub num : unsigned_abs f.num ≤ 2 ^ 62
+  pub den : f.den ≤ 2 ^ 62
+
+-- a step of a grid is above 0
+pub record IsGrid (f : Fraction) : Type 0 where
+  pub narrow : IsNarrow f
+  pub positive : pos 0 <ℤ f.num

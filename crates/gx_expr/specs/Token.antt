@@ -50,9 +50,11 @@ abbrev pub sign_at : List ℕ → Part Bool
 sign_at [] = record { what = false; size = 0 }
 sign_at (b ∷ s) = if b == 45 then record { what = true; size = 1 } else record { what = false; size = if b == 43 then 1 else 0 }
 
+-- the magnitude with its sign
 abbrev pub power_of : Bool → ℕ → ℤ
 power_of negative n = if negative then neg_ℤ (pos n) else pos n
 
+-- no exponent is one of 0, of no byte
 abbrev pub no_exponent : Part ℤ
 no_exponent = record { what = pos 0; size = 0 }
 
@@ -60,6 +62,7 @@ no_exponent = record { what = pos 0; size = 0 }
 abbrev pub exponent_from : Part Bool → Part (List ℕ) → Part ℤ
 exponent_from sign digits = if digits.size == 0 then no_exponent else record { what = power_of sign.what (value_of_digits digits.what); size = suc (sign.size + digits.size) }
 
+-- the exponent whose mark stands before the text
 abbrev pub exponent_after : List ℕ → Part ℤ
 exponent_after s = exponent_from (sign_at s) (run_of is_ascii_digit (drop (sign_at s).size s))
 

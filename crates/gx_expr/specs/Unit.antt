@@ -15,6 +15,7 @@ length_of name num den = record { name = record { text = name; number = 0 }; num
 abbrev pub degree : List ℕ → Unit
 degree name = record { name = record { text = name; number = 0 }; num = 1; den = 1; angle = true }
 
+-- a name and its value, row by row
 abbrev pub units : List Unit
 units =
     length_of (codes "mm") 1 1 ∷ length_of (codes "millimeter") 1 1 ∷ length_of (codes "cm") 10 1 ∷ length_of (codes "centimeter") 10 1
@@ -22,6 +23,7 @@ units =
     ∷ length_of (codes "um") 1 1000 ∷ length_of (codes "micrometer") 1 1000 ∷ length_of (codes "nm") 1 1000000 ∷ length_of (codes "nanometer") 1 1000000
     ∷ length_of (codes "angstrom") 1 10000000 ∷ degree (codes "deg") ∷ degree (codes "degree") ∷ []
 
+-- a unit's value, with its mark
 abbrev pub value_of : Unit → Result Quantity ExprFault
 value_of unit = ratio (pos unit.num) (pos unit.den) (not unit.angle) unit.angle
 

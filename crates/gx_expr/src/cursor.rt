@@ -81,9 +81,8 @@ impl<'a> Cursor<'a> {
         ensures { result ≡ begins_decimal self.now }
     {
         match self.left {
-            [first, second, ..] => first.is_ascii_digit()
-                || (*first == b'.' && second.is_ascii_digit()),
-            [first] => first.is_ascii_digit(),
+            [b'.', second, ..] => second.is_ascii_digit(),
+            [first, ..] => first.is_ascii_digit(),
             [] => false,
         }
     }

@@ -1,6 +1,6 @@
 ghost use Rattle.std.specs.Prelude.{◌≡◌, ◌<ℤ◌, pos, None, Some, if◌then◌else◌};
 ghost use Rattle.gx_expr.specs.Convert.{is_grid};
-ghost use Rattle.gx_expr.specs.Narrow.{IsNarrow};
+ghost use Rattle.gx_expr.specs.Quantity.{IsNarrow};
 
 use crate::Value;
 use gx_fraction::Frac;
@@ -14,7 +14,7 @@ pub struct Grid {
 
 impl Model for Grid {
     ghost use Rattle.gx_fraction.specs.Fraction.{Fraction};
-    ghost use Rattle.gx_expr.specs.Narrow.{IsGrid};
+    ghost use Rattle.gx_expr.specs.Quantity.{IsGrid};
 
     ghost Value = { Fraction };
 

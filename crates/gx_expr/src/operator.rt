@@ -72,10 +72,7 @@ fn flip(negative: bool, sign: SumSign) -> bool
 pub fn opposite_if(negative: bool, a: Result<Value, ExprFault>) -> Result<Value, ExprFault>
     ensures { result ≡ signed negative a }
 {
-    match a {
-        Err(fault) => Err(fault),
-        Ok(a) => Ok(if negative { a.neg() } else { a }),
-    }
+    a.map(|a| if negative { a.neg() } else { a })
 }
 
 impl SumSign {

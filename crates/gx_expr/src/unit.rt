@@ -45,14 +45,6 @@ const UNITS: [Unit; 15] = [
 
 #[tactic(auto, using(crate::proofs::Casts::small))]
 impl Unit {
-    ghost use Rattle.std.specs.Str.{str_eq_ignore_ascii_case};
-
-    fn is(&self, word: &[u8]) -> bool
-        ensures { result ≡ str_eq_ignore_ascii_case self.now.name.text word.now }
-    {
-        self.name.same(word)
-    }
-
     fn value(&self) -> Result<Value, ExprFault>
         ensures { result ≡ value_of self.now }
     {
@@ -76,6 +68,6 @@ pub fn unit_value(word: &[u8]) -> Result<Value, ExprFault>
 fn value_in<const N: usize>(units: &[Unit; N], word: &[u8]) -> Option<Result<Value, ExprFault>>
     ensures { result ≡ option_map value_of (unit_in units.now word.now) }
 {
-    let unit = units.iter().find(|unit| unit.is(word))?;
+    let unit = units.iter().find(|unit| unit.name.same(word))?;
     Some(unit.value())
 }

@@ -1,5 +1,5 @@
 ghost use Rattle.std.specs.Prelude.{◌≡◌, ◌<◌, ◌≤◌, ◌^◌, ◌≢◌, pos, unsigned_abs, ◌<ℤ◌, ◌+ℤ◌, ◌-ℤ◌, ◌*ℤ◌};
-ghost use Rattle.gx_expr.specs.Narrow.{IsNarrow};
+ghost use Rattle.gx_expr.specs.Quantity.{IsNarrow};
 
 use crate::ExprFault;
 use crate::product::times;
@@ -16,8 +16,7 @@ pub struct Value {
 }
 
 impl Model for Value {
-    ghost use Rattle.gx_expr.specs.Narrow.{IsNarrow};
-    ghost use Rattle.gx_expr.specs.Quantity.{Quantity};
+    ghost use Rattle.gx_expr.specs.Quantity.{IsNarrow, Quantity};
 
     ghost Value = { Quantity };
 
@@ -116,30 +115,32 @@ impl Value {
     pub fn add(&self, o: &Value) -> Result<Value, ExprFault>
         ensures { result ≡ sum_of self.now o.now }
     {
-        let num = self.across(o) + o.across(self);
-        self.combined(o, num, self.whole(o))
+        let num = times(self.num(), o.den()) + times(o.num(), self.den());
+        self.combined(o, num, times(self.den(), o.den()))
     }
 
     /// The difference, or `TooWide`.
     pub fn sub(&self, o: &Value) -> Result<Value, ExprFault>
         ensures { result ≡ difference_of self.now o.now }
     {
-        let num = self.across(o) - o.across(self);
-        self.combined(o, num, self.whole(o))
+        let num = times(self.num(), o.den()) - times(o.num(), self.den());
+        self.combined(o, num, times(self.den(), o.den()))
     }
 
     /// The product, or `TooWide`.
     pub fn mul(&self, o: &Value) -> Result<Value, ExprFault>
         ensures { result ≡ product_of self.now o.now }
     {
-        self.combined(o, self.top(o), self.whole(o))
+        let num = times(self.num(), o.num());
+        self.combined(o, num, times(self.den(), o.den()))
     }
 
     /// The quotient. `DivideByZero` where `o` is 0, else it may be `TooWide`.
     pub fn div(&self, o: &Value) -> Result<Value, ExprFault>
         ensures { result ≡ quotient_of self.now o.now }
     {
-        self.combined(o, self.across(o), o.across(self))
+        let num = times(self.num(), o.den());
+        self.combined(o, num, times(o.num(), self.den()))
     }
 
     /// The opposite, which is as wide as the value.
@@ -160,29 +161,5 @@ impl Value {
         ensures { result ≡ ratio_of num den self.now o.now }
     {
         Value::new(num, den, self.length | o.length, self.angle | o.angle)
-    }
-
-    // The numerator times the denominator of the other.
-    fn across(&self, o: &Value) -> i128
-        ensures value { result ≡ self.now.number.num *ℤ pos o.now.number.den }
-        ensures bound { unsigned_abs result ≤ 2 ^ 124 }
-    {
-        times(self.num(), o.den())
-    }
-
-    // The product of the numerators.
-    fn top(&self, o: &Value) -> i128
-        ensures value { result ≡ self.now.number.num *ℤ o.now.number.num }
-        ensures bound { unsigned_abs result ≤ 2 ^ 124 }
-    {
-        times(self.num(), o.num())
-    }
-
-    // The product of the denominators.
-    fn whole(&self, o: &Value) -> i128
-        ensures value { result ≡ pos self.now.number.den *ℤ pos o.now.number.den }
-        ensures bound { unsigned_abs result ≤ 2 ^ 124 }
-    {
-        times(self.den(), o.den())
     }
 }
