@@ -64,7 +64,8 @@ fn cubes_are_parted_where_they_touch_or_are_apart(rt: HostRuntime) -> Result<(),
     Ok(())
 }
 
-// By hand: the first edge of the first and the first vertex of the second are in the plane -10 x - 9 y + 10 z = 0, the rest beside it.
+// By hand: the plane -10 x - 9 y + 10 z = 0 has the first two points of the first and the first point of the second; the other
+// points of each are on its own side.
 #[test]
 fn tetrahedra_that_no_face_parts(rt: HostRuntime) -> Result<(), Fail> {
     let alloc = rt.alloc();
