@@ -1,6 +1,7 @@
 -- Planes between boxes, worked out by hand.
-use Rattle.std.proofs.Common.{◌≡◌, ℕ, pred, ℤ, pos, negsuc, List, [], ◌∷◌, Some, refl}
+use Rattle.std.proofs.Common.{◌≡◌, ℕ, pred, ℤ, pos, negsuc, List, [], ◌∷◌, Some, None, refl}
 use Rattle.gx_num.specs.declared.vector.V3.{V3}
+use Rattle.gx_num.specs.Number.{common_divisor}
 use Rattle.gx_separate.specs.Between.{first_between}
 
 abbrev at : ℤ → ℤ → ℤ → V3
@@ -21,3 +22,8 @@ touching_known = refl
 
 exchanged_known : first_between (box (pos 5) (pos 15)) (box (minus 5) (pos 5)) ≡ Some (record { n = at (minus 1) (pos 0) (pos 0); e = minus 5 })
 exchanged_known = refl
+
+-- two that overlap: none
+overlapping_known : first_between (box (minus 5) (pos 5)) (box (pos 4) (pos 14)) ≡ None
+unfolding common_divisor
+overlapping_known = refl

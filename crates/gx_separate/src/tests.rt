@@ -1,4 +1,4 @@
-ghost use Rattle.std.specs.Prelude.{◌≡◌, ◌≤◌, unsigned_abs, All};
+ghost use Rattle.std.specs.Prelude.{unsigned_abs, All};
 ghost use Rattle.gx_num.specs.Vector.{IsWithin};
 ghost use Rattle.gx_num.specs.declared.vector.TheConstants.{M};
 
@@ -9,12 +9,14 @@ use gx_plane::Plane;
 use std::alloc::Global;
 use std::test::Fail;
 
-fn point(x: i64, y: i64, z: i64) -> V3
-    ensures x { result.x ≡ x }
-    ensures y { result.y ≡ y }
-    ensures z { result.z ≡ z }
+fn point(x: i16, y: i16, z: i16) -> V3
+    ensures { IsWithin (unsigned_abs M) result }
 {
-    V3 { x, y, z }
+    V3 {
+        x: i64::from(x),
+        y: i64::from(y),
+        z: i64::from(z),
+    }
 }
 
 fn hull(alloc: Global, points: &[V3]) -> Result<Hull, Fail>
@@ -26,7 +28,7 @@ fn hull(alloc: Global, points: &[V3]) -> Result<Hull, Fail>
 
 // The cube of half-length 5 round a point.
 fn cube(alloc: Global, x: i8, y: i8, z: i8) -> Result<Hull, Fail> {
-    let (x, y, z) = (i64::from(x), i64::from(y), i64::from(z));
+    let (x, y, z) = (i16::from(x), i16::from(y), i16::from(z));
     hull(
         alloc,
         &[
@@ -62,7 +64,8 @@ fn cubes_are_parted_where_they_touch_or_are_apart(rt: HostRuntime) -> Result<(),
     Ok(())
 }
 
-// By hand: the first edge of the first and the first vertex of the second are in the plane -10 x - 9 y + 10 z = 0, the rest beside it.
+// By hand: the plane -10 x - 9 y + 10 z = 0 has the first two points of the first and the first point of the second; the other
+// points of each are on its own side.
 #[test]
 fn tetrahedra_that_no_face_parts(rt: HostRuntime) -> Result<(), Fail> {
     let alloc = rt.alloc();
