@@ -1,0 +1,2 @@
+mod Containment
+mod KnownPoints
