@@ -1,23 +1,12 @@
 -- Points of two boxes, worked out by hand.
-use Rattle.std.proofs.Common.{◌≡◌, ℕ, pred, ℤ, pos, negsuc, List, [], ◌∷◌, length, Some, None, refl}
+use Rattle.std.proofs.Common.{◌≡◌, ℤ, pos, [], ◌∷◌, length, Some, None, refl}
 use Rattle.gx_num.specs.declared.vector.V3.{V3}
 use Rattle.gx_num.specs.Number.{common_divisor}
 use Rattle.gx_num.specs.Space.{HalfSpace}
 use Rattle.gx_num.specs.Vector4.{Vec4}
 use Rattle.gx_convex.specs.Faces.{faces_of}
+use Rattle.gx_separate.proofs.KnownPlanes.{at, minus, box}
 use Rattle.gx_common.specs.Common.{candidate_points, taken_of}
-
-abbrev at : ℤ → ℤ → ℤ → V3
-at x y z = record { x = x; y = y; z = z }
-
-abbrev minus : ℕ → ℤ
-minus n = negsuc (pred n)
-
--- the corners of a box with y and z from -5 to 5
-abbrev box : ℤ → ℤ → List V3
-box low high =
-    at low (minus 5) (minus 5) ∷ at high (minus 5) (minus 5) ∷ at low (pos 5) (minus 5) ∷ at high (pos 5) (minus 5) ∷
-    at low (minus 5) (pos 5) ∷ at high (minus 5) (pos 5) ∷ at low (pos 5) (pos 5) ∷ at high (pos 5) (pos 5) ∷ []
 
 abbrev face : ℤ → ℤ → ℤ → ℤ → HalfSpace
 face x y z e = record { n = at x y z; e = e }

@@ -4,14 +4,14 @@ use Rattle.gx_num.specs.declared.vector.V3.{V3}
 use Rattle.gx_num.specs.Number.{common_divisor}
 use Rattle.gx_separate.specs.Between.{first_between}
 
-abbrev at : ℤ → ℤ → ℤ → V3
+abbrev pub at : ℤ → ℤ → ℤ → V3
 at x y z = record { x = x; y = y; z = z }
 
-abbrev minus : ℕ → ℤ
+abbrev pub minus : ℕ → ℤ
 minus n = negsuc (pred n)
 
 -- the corners of a box with y and z from -5 to 5
-abbrev box : ℤ → ℤ → List V3
+abbrev pub box : ℤ → ℤ → List V3
 box low high =
     at low (minus 5) (minus 5) ∷ at high (minus 5) (minus 5) ∷ at low (pos 5) (minus 5) ∷ at high (pos 5) (minus 5) ∷
     at low (minus 5) (pos 5) ∷ at high (minus 5) (pos 5) ∷ at low (pos 5) (pos 5) ∷ at high (pos 5) (pos 5) ∷ []

@@ -1,2 +1,2 @@
 mod AxisPlanes
-mod KnownPlanes
+pub mod KnownPlanes
