@@ -1,4 +1,5 @@
 pub mod Given
 pub mod Laws
 pub mod Matrix
+pub mod Place
 pub mod Rotation
