@@ -1,8 +1,8 @@
 -- The greatest number that divides a list of numbers: every number that divides them all divides it.
-use Rattle.std.proofs.Common.{◌≡◌, ◌⊎◌, inl, inr, ℕ, zero, suc, ◌≤◌, ◌<◌, ◌%◌, Bool, true, false, cond, ◌&&◌, ◌==◌, List, [], ◌∷◌, refl, sym, ap, ◌∙◌, subst, arith, eqb-true, true≢false}
+use Rattle.std.proofs.Common.{◌≡◌, ◌⊎◌, inl, inr, ℕ, zero, suc, ◌≤◌, ◌<◌, ◌%◌, Bool, true, false, cond, ◌&&◌, ◌==◌, List, [], ◌∷◌, map, ◌*◌, ◌/◌, ℤ, pos, negsuc, neg_ℤ, unsigned_abs, int_div, refl, sym, ap, ◌∙◌, subst, arith, eqb-true, true≢false}
 use Rattle.std.specs.Int.{IsGcd, ◌∣◌}
 use Rattle.std.specs.List.{list_all, AllByRecursion}
-use Rattle.std.proofs.Math.Nat.{one-dvd, eq-zero_of_zero-dvd}
+use Rattle.std.proofs.Math.Nat.{one-dvd, eq-zero_of_zero-dvd, mul-dvd-mul_left, dvd_of_mul-dvd-mul_left, div-add-mod}
 use Rattle.std.proofs.lemmas.Nat.{mod_below}
 use Rattle.std.proofs.lemmas.Nat.Gcd.{le_of_dvd, dvd_trans, dvd-zero, dvd_of_mod-eq-zero, mod-eq-zero_of_dvd, IsGcd-from_zero, IsGcd-from_mod}
 use Rattle.gx_num.specs.Number.{greatest_up_to, first_nonzero, common_divisor}
@@ -139,3 +139,33 @@ pub IsDivisor-common_divisor : (ns : List ℕ) → IsDivisor ns (common_divisor 
 IsDivisor-common_divisor ns =
     let some = exists ns in
     subst (IsDivisor ns) (sym (common_divisor-same ns some.0 some.1)) some.1
+
+pub unsigned_abs-int_div : (a : ℤ) (d : ℕ) → unsigned_abs (int_div a (pos d)) ≡ unsigned_abs a / d
+unsigned_abs-int_div (pos a) d = refl
+unsigned_abs-int_div (negsuc a) d = unsigned_abs-neg (suc a / d)
+  where
+    unsigned_abs-neg : (n : ℕ) → unsigned_abs (neg_ℤ (pos n)) ≡ n
+    unsigned_abs-neg zero = refl
+    unsigned_abs-neg (suc n) = refl
+
+-- ---- divided by it, the numbers have only 1 in common
+pub common_divisor-divided : (ns : List ℕ) → 0 < common_divisor ns → common_divisor (map (λ n. n / common_divisor ns) ns) ≡ 1
+common_divisor-divided ns lt = common_divisor-same (map (λ n. n / g) ns) 1 (record { divides = one_divides (map (λ n. n / g) ns); every = every })
+  where
+    g : ℕ
+    g = common_divisor ns
+
+    product : (d n : ℕ) → g ∣ n → d ∣ n / g → g * d ∣ n
+    product d n h k =
+        let whole : g * (n / g) ≡ n = omega (arith, div-add-mod n g, mod-eq-zero_of_dvd g h) in
+        subst (λ (m : ℕ). g * d ∣ m) whole (mul-dvd-mul_left d g k)
+
+    products : (d : ℕ) (ms : List ℕ) → DividesAll g ms → DividesAll d (map (λ n. n / g) ms) → DividesAll (g * d) ms
+    products d [] h k = tt
+    products d (m ∷ ms) h k = (product d m h.0 k.0, products d ms h.1 k.1)
+
+    every : (d : ℕ) → DividesAll d (map (λ n. n / g) ns) → d ∣ 1
+    every d h =
+        let is = IsDivisor-common_divisor ns in
+        let one : g ≡ g * 1 = omega arith in
+        dvd_of_mul-dvd-mul_left d lt (subst (λ (m : ℕ). g * d ∣ m) one (is.every (g * d) (products d ns is.divides h)))

@@ -1,3 +1,4 @@
 mod Products
 pub mod Divisors
 pub mod Order
+pub mod Points

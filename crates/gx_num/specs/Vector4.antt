@@ -1,5 +1,6 @@
--- Vectors of four whole numbers: sums, products and determinants (any text on linear algebra).
-use Rattle.std.specs.Prelude.{ℤ, ◌+ℤ◌, ◌-ℤ◌, ◌*ℤ◌, pos}
+-- Vectors of four whole numbers: sums, products, determinants, and points in lowest terms (any text on linear algebra).
+use Rattle.std.specs.Prelude.{◌≡◌, ℕ, ℤ, ◌<◌, ◌<ℤ◌, ◌^◌, ◌+ℤ◌, ◌-ℤ◌, ◌*ℤ◌, pos, int_div, unsigned_abs, [], ◌∷◌}
+use Rattle.gx_num.specs.Number.{common_divisor}
 
 -- Four whole numbers. As a point, with w above 0, they stand for (x/w, y/w, z/w).
 pub record Vec4 : Type 0 where
@@ -45,3 +46,24 @@ minors a b c = record {
 -- the determinant of four rows
 abbrev pub det4 : Vec4 → Vec4 → Vec4 → Vec4 → ℤ
 det4 a b c d = dot4 a (minors b c d)
+
+-- the greatest common divisor of the four numbers
+abbrev pub divisor_of4 : Vec4 → ℕ
+divisor_of4 v = common_divisor (unsigned_abs v.x ∷ unsigned_abs v.y ∷ unsigned_abs v.z ∷ unsigned_abs v.w ∷ [])
+
+-- the four numbers divided by a number
+abbrev pub quotient4 : Vec4 → ℕ → Vec4
+quotient4 v d = record { x = int_div v.x (pos d); y = int_div v.y (pos d); z = int_div v.z (pos d); w = int_div v.w (pos d) }
+
+-- the same point in lowest terms: divided by their greatest common divisor
+abbrev pub lowest4 : Vec4 → Vec4
+lowest4 v = quotient4 v (divisor_of4 v)
+
+-- a point in lowest terms, of numbers that fit
+pub record IsLowestPoint (p : Vec4) : Type 0 where
+  pub positive : pos 0 <ℤ p.w
+  pub lowest : divisor_of4 p ≡ 1
+  pub x : unsigned_abs p.x < 2 ^ 126
+  pub y : unsigned_abs p.y < 2 ^ 126
+  pub z : unsigned_abs p.z < 2 ^ 126
+  pub w : unsigned_abs p.w < 2 ^ 126

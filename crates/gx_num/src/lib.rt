@@ -4,6 +4,7 @@
 mod extent;
 mod memory;
 mod number;
+mod point;
 mod ray;
 #[cfg(test)]
 mod tests;
@@ -12,5 +13,6 @@ mod vector;
 pub use extent::Extent;
 pub use memory::NoMemory;
 pub use number::{cmp_products, gcd, sign};
+pub use point::Hp;
 pub use ray::Ray;
 pub use vector::{M, V3};

@@ -1,4 +1,4 @@
-use crate::{cmp_products, gcd, sign};
+use crate::{Hp, cmp_products, gcd, sign};
 use std::cmp::Ordering::{Equal, Greater, Less};
 
 // By hand; the last rows are beyond 64 bits, and their products beyond 128.
@@ -46,5 +46,22 @@ fn divisors_are_found_in_short_and_in_long(rt: HostRuntime) {
     }
     for (a, s) in [(-5, -1), (0, 0), (i128::MAX, 1)] {
         assert_eq!(rt; sign(a), s);
+    }
+}
+
+// By hand.
+#[test]
+fn a_point_is_in_lowest_terms(rt: HostRuntime) {
+    let cases = [
+        (Hp::new(6, -9, 0, 3), (2, -3, 0, 1)),
+        (Hp::new(10, -10, 14, 4), (5, -5, 7, 2)),
+        (Hp::new(0, 0, 0, 5), (0, 0, 0, 1)),
+        (
+            Hp::new(1 << 100, 3, -4, 1 << 90),
+            (1 << 100, 3, -4, 1 << 90),
+        ),
+    ];
+    for (point, numbers) in cases {
+        assert_eq!(rt; (point.x(), point.y(), point.z(), point.w()), numbers);
     }
 }

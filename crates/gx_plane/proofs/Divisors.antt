@@ -1,12 +1,12 @@
 -- The common divisor of a vector's components, and the vector divided by it.
 use Rattle.std.proofs.Common.{◌≡◌, ◌⊎◌, inl, inr, ℕ, zero, suc, ◌*◌, ◌≤◌, ◌<◌, ◌/◌, Bool, true, false, ◌&&◌, ◌==◌, List, [], ◌∷◌, ℤ, pos, negsuc, ◌-ℤ◌, unsigned_abs, int_div, neg_ℤ, refl, sym, ap, ◌∙◌, subst, arith, eqb-true, div-le_self, true≢false}
 use Rattle.std.specs.Int.{IsGcd, ◌∣◌}
-use Rattle.std.proofs.lemmas.Nat.Gcd.{le_of_dvd, mod-eq-zero_of_dvd}
-use Rattle.std.proofs.Math.Nat.{one-dvd, eq-zero_of_zero-dvd, mul-dvd-mul_left, dvd_of_mul-dvd-mul_left, div-add-mod}
+use Rattle.std.proofs.lemmas.Nat.Gcd.{le_of_dvd}
+use Rattle.std.proofs.Math.Nat.{eq-zero_of_zero-dvd}
 use Rattle.gx_num.specs.declared.vector.V3.{V3}
 use Rattle.gx_num.specs.Number.{common_divisor}
 use Rattle.gx_num.specs.Vector.{IsWithin, opposite_of}
-use Rattle.gx_num.proofs.Divisors.{DividesAll, zero_or_pos, IsDivisor-cons, IsDivisor-two, IsDivisor-common_divisor, common_divisor-same}
+use Rattle.gx_num.proofs.Divisors.{DividesAll, zero_or_pos, IsDivisor-cons, IsDivisor-two, IsDivisor-common_divisor, common_divisor-same, common_divisor-divided, unsigned_abs-int_div}
 use Rattle.gx_plane.specs.Plane.{divisor_of, primitive, IsPrimitive, is_zero}
 use borrow.Author.Differences.{ints}
 
@@ -92,35 +92,10 @@ divisor_of-le v r h =
     go x y (inr k) = k
 
 -- ---- divided by it
-unsigned_abs-int_div : (a : ℤ) (d : ℕ) → unsigned_abs (int_div a (pos d)) ≡ unsigned_abs a / d
-unsigned_abs-int_div (pos a) d = refl
-unsigned_abs-int_div (negsuc a) d = unsigned_abs-neg (suc a / d)
-  where
-    unsigned_abs-neg : (n : ℕ) → unsigned_abs (neg_ℤ (pos n)) ≡ n
-    unsigned_abs-neg zero = refl
-    unsigned_abs-neg (suc n) = refl
-
 pub IsPrimitive-primitive : (v : V3) → 0 < divisor_of v → IsPrimitive (primitive v)
-IsPrimitive-primitive v lt = record {
-  divisor = common_divisor-same (components (primitive v)) 1 (record { divides = (one-dvd _, (one-dvd _, (one-dvd _, tt))); every = every });
+IsPrimitive-primitive v lt = let d = divisor_of v in record {
+  divisor = ap common_divisor (λ i. unsigned_abs-int_div v.x d i ∷ unsigned_abs-int_div v.y d i ∷ unsigned_abs-int_div v.z d i ∷ []) ∙ common_divisor-divided (components v) lt;
 }
-  where
-    divides : DividesAll (divisor_of v) (components v)
-    divides = divisor_of-divides v
-
-    product : (d n : ℕ) → divisor_of v ∣ n → d ∣ n / divisor_of v → divisor_of v * d ∣ n
-    product d n h k =
-        let whole : divisor_of v * (n / divisor_of v) ≡ n = omega (arith, div-add-mod n (divisor_of v), mod-eq-zero_of_dvd (divisor_of v) h) in
-        subst (λ (m : ℕ). divisor_of v * d ∣ m) whole (mul-dvd-mul_left d (divisor_of v) k)
-
-    component : (d : ℕ) (a : ℤ) → divisor_of v ∣ unsigned_abs a → d ∣ unsigned_abs (int_div a (pos (divisor_of v))) → divisor_of v * d ∣ unsigned_abs a
-    component d a h k = product d (unsigned_abs a) h (rw (unsigned_abs-int_div a (divisor_of v)) at k)
-
-    every : (d : ℕ) → DividesAll d (components (primitive v)) → d ∣ 1
-    every d h =
-        let all : divisor_of v * d ∣ divisor_of v = (IsDivisor-common_divisor (components v)).every (divisor_of v * d) (component d v.x divides.0 h.0, (component d v.y divides.1.0 h.1.0, (component d v.z divides.1.1.0 h.1.1.0, tt))) in
-        let one : divisor_of v ≡ divisor_of v * 1 = omega arith in
-        dvd_of_mul-dvd-mul_left d lt (subst (λ (m : ℕ). divisor_of v * d ∣ m) one all)
 
 pub IsWithin-primitive : (v : V3) (r : ℕ) → IsWithin r v → IsWithin r (primitive v)
 IsWithin-primitive v r h = record { x = le v.x h.x; y = le v.y h.y; z = le v.z h.z }

@@ -6,14 +6,14 @@ use Rattle.std.specs.Option.{option_map}
 use Rattle.std.specs.Str.{str_eq_ignore_ascii_case}
 
 -- a text and its number
-pub record Row : Type 0 where
+pub record TableEntry : Type 0 where
   pub text : List ℕ
   pub number : ℕ
 
 -- the number of the first row whose text is the word, in any case of its letters
-abbrev pub number_in : List Row → List ℕ → Option ℕ
+abbrev pub number_in : List TableEntry → List ℕ → Option ℕ
 number_in rows word =
-    option_map (λ (row : Row). row.number) (find (λ row. str_eq_ignore_ascii_case row.text word) rows)
+    option_map (λ (row : TableEntry). row.number) (find (λ row. str_eq_ignore_ascii_case row.text word) rows)
 
 -- all bytes are ASCII
 abbrev pub is_ascii_text : List ℕ → Bool

@@ -4,7 +4,7 @@ ghost use Rattle.gx_table.specs.Table.{is_ascii_text, number_in};
 
 use std::marker::Model;
 
-/// A text of 1 to 16 ASCII bytes, and its number. The fields are for `entry!`; contracts see a `Row`.
+/// A text of 1 to 16 ASCII bytes, and its number. The fields are for `entry!`; contracts see a `TableEntry`.
 #[derive(Clone, Copy)]
 pub struct Entry {
     pub bytes: [u8; 16],
@@ -14,9 +14,9 @@ pub struct Entry {
 
 impl Model for Entry {
     ghost use Rattle.std.specs.Prelude.{length, take};
-    ghost use Rattle.gx_table.specs.Table.{Row, Holds, padded};
+    ghost use Rattle.gx_table.specs.Table.{TableEntry, Holds, padded};
 
-    ghost Value = { Row };
+    ghost Value = { TableEntry };
 
     ghost view = { λ e. record { text = take e.count e.bytes; number = e.number } };
 
