@@ -1,6 +1,6 @@
 ghost use Rattle.std.specs.Prelude.{◌≡◌, ◌<◌, ◌≤◌, ◌*◌, ◌<ℤ◌, pos, unsigned_abs, int_div, find, All};
 ghost use Rattle.gx_num.specs.Vector.{IsWithin, dot_of, difference_of, opposite_of};
-ghost use Rattle.gx_plane.specs.Plane.{reach, normal_reach, offset_reach, divisor_of, primitive, IsPrimitive, side_of, supports, flipped, normal_of, plane_with, plane_through, unit_along, plane_along};
+ghost use Rattle.gx_plane.specs.Plane.{reach, normal_reach, offset_reach, divisor_of, primitive, IsPrimitive, IsPlane, side_of, supports, flipped, normal_of, plane_with, plane_through, unit_along, plane_along};
 ghost use Rattle.gx_plane.specs.Between.{both_ways};
 
 use crate::between::first_of_three;
@@ -28,6 +28,14 @@ impl Model for Plane {
 }
 
 impl Plane {
+    /// The plane with this normal and this e, which are in lowest terms and fit.
+    pub fn from_parts(n: V3, e: i128) -> Plane
+        requires { IsPlane (record { n = n; e = e }) }
+        ensures { result ≡ record { n = n; e = e } }
+    {
+        Plane { n, e }
+    }
+
     pub fn n(&self) -> V3
         ensures value { result ≡ self.now.n }
         ensures primitive { IsPrimitive result }

@@ -1,5 +1,5 @@
-mod Algebra
+pub mod Algebra
 mod Each
 mod Oriented
-mod Tables
+pub mod Tables
 mod Turns

@@ -1,7 +1,8 @@
 -- Placed volumes: the frames of a mother and of a daughter that is turned and moved in it (the Geant4 Book for Application Developers, geometry, physical volumes).
-use Rattle.std.specs.Prelude.{ℤ, ◌-ℤ◌, ◌*ℤ◌}
+use Rattle.std.specs.Prelude.{◌+ℤ◌, ◌-ℤ◌, ◌*ℤ◌}
 use Rattle.gx_num.specs.declared.vector.V3.{V3}
-use Rattle.gx_num.specs.Vector.{sum_of}
+use Rattle.gx_num.specs.Vector.{sum_of, dot_of}
+use Rattle.gx_num.specs.Space.{HalfSpace}
 use Rattle.gx_num.specs.Vector4.{Vec4}
 use Rattle.gx_rotation.specs.Matrix.{Matrix, transpose, image}
 
@@ -15,3 +16,7 @@ local_point rotation offset p =
 -- a point of the daughter in the mother's frame: t + R^-1 v
 abbrev pub placed_point : Matrix → V3 → V3 → V3
 placed_point rotation offset v = sum_of offset (image (transpose rotation) v)
+
+-- an inequality of the daughter in the mother's frame: n' = R^-1 n, and n' . x <= e + n' . t
+abbrev pub placed_face : Matrix → V3 → HalfSpace → HalfSpace
+placed_face rotation offset h = let n = image (transpose rotation) h.n in record { n = n; e = h.e +ℤ dot_of n offset }
