@@ -1,11 +1,11 @@
 -- The distinct elements of a list are its members.
-use Rattle.std.proofs.Common.{◌≡◌, ◌≤◌, Bool, true, false, ◌&&◌, List, [], ◌∷◌, length, pos, ◌≤ℤ◌, All, Contains, refl, sym, ap, ◌∙◌, arith}
+use Rattle.std.proofs.Common.{◌≡◌, ◌≤◌, Bool, true, false, ◌&&◌, List, [], ◌∷◌, length, pos, ◌≤ℤ◌, All, refl, sym, ap, ◌∙◌, arith}
 use Rattle.std.specs.Bool.{Decides}
 use Rattle.std.specs.List.{list_any}
 use Rattle.std.specs.Ordering.{int_eq}
 use Rattle.std.proofs.lemmas.Bool.{cond-true, cond-false}
 use Rattle.std.proofs.lemmas.Bool.Decides.{Decides-int_eq, Decides-and, Decides-like}
-use Rattle.std.proofs.lemmas.List.Elements.{All-nil, All-cons, All-head, All-tail, All-contains, All-contains_itself, All-weaker}
+use Rattle.std.proofs.lemmas.List.Elements.{All-nil, All-cons, All-head, All-tail, All-contains, All-weaker}
 use Rattle.std.proofs.lemmas.Map.Views.{Contains-from_any}
 use Rattle.gx_num.specs.Vector.{is_same}
 use Rattle.gx_num.specs.declared.vector.V3.{V3}
@@ -59,10 +59,6 @@ All-distinct P ps h = All-distinct_by is_same P [] ps h
 
 pub All-from_distinct : (P : V3 → Type 0) (ps : List V3) → All P (distinct ps) → All P ps
 All-from_distinct P ps h = All-from_distinct_by is_same (λ a b. (Decides-is_same a b).0) P [] ps (All-nil P) h
-
-pub Contains-distinct : (ps : List V3) (p : V3) → Contains ps p → Contains (distinct ps) p
-Contains-distinct ps p h =
-    All-contains (Contains (distinct ps)) ps p (All-from_distinct (Contains (distinct ps)) ps (All-contains_itself (distinct ps))) h
 
 -- ---- distinct points stay as they are
 distinct_by-distinct_by : (seen ps : List V3) → distinct_by is_same seen (distinct_by is_same seen ps) ≡ distinct_by is_same seen ps

@@ -1,5 +1,5 @@
 -- The faces of points that aren't coplanar bound the points, and imply each half-space that does.
-use Rattle.std.proofs.Common.{get_or, ◌≡◌, Bool, true, false, cond, Option, Some, None, List, [], ◌∷◌, ◌++◌, flat_map, filter, find, All, pos, ◌*ℤ◌, ◌<ℤ◌, int_le, refl, sym, ap, ◌∙◌, arith, true≢false}
+use Rattle.std.proofs.Common.{get_or, ◌≡◌, Bool, true, false, cond, Option, Some, None, List, [], ◌∷◌, ◌++◌, flat_map, filter, find, All, pos, ◌+◌, ◌-ℤ◌, ◌*ℤ◌, ◌<ℤ◌, int_le, refl, sym, ap, ◌∙◌, arith, true≢false}
 use Rattle.std.specs.List.{cons_option}
 use Rattle.std.specs.Ordering.{int_eq}
 use Rattle.std.specs.Bool.{Decides}
@@ -11,11 +11,14 @@ use Rattle.gx_num.specs.Vector.{is_same}
 use Rattle.gx_num.specs.declared.vector.V3.{V3}
 use Rattle.gx_num.specs.Space.{HalfSpace, is_in, normal_dot}
 use Rattle.gx_num.specs.Vector4.{Vec4, dot4}
-use Rattle.gx_plane.specs.Plane.{divisor_of, is_zero, supports, flipped, normal_of, plane_through}
+use Rattle.gx_num.specs.Vector.{IsWithin, dot_of, difference_of, opposite_of}
+use Rattle.gx_plane.specs.Plane.{reach, normal_reach, IsPlane, primitive, divisor_of, is_zero, supports, flipped, normal_of, plane_through}
 use Rattle.gx_plane.specs.Between.{triples_of, both_ways, candidates}
-use Rattle.gx_plane.proofs.Divisors.{divisor_of-opposite, not_zero-divisor_of, IsPrimitive-primitive}
+use Rattle.gx_plane.proofs.Sizes.{IsWithin-difference_of, IsWithin-cross_of, IsWithin-opposite_of, dot_of-within}
+use Rattle.gx_plane.proofs.Invariants.{IsPlane-with, IsPlane-opposite}
+use Rattle.gx_plane.proofs.Divisors.{IsWithin-primitive, unsigned_abs-opposite, divisor_of-opposite, not_zero-divisor_of, IsPrimitive-primitive}
 use Rattle.gx_plane.proofs.PlaneFacts.{plane_through_some, side_of-flipped}
-use Rattle.gx_plane.proofs.TripleFacts.{planes_of}
+use Rattle.gx_plane.proofs.TripleFacts.{planes_of, All-triples_of}
 use Rattle.gx_plane.proofs.Complete.{lifted, within, dot4-within, tilted_supporting}
 use Rattle.gx_convex.specs.Points.{are_coplanar}
 use Rattle.gx_convex.specs.Faces.{is_same_plane, faces_of}
@@ -26,18 +29,18 @@ use Rattle.gx_convex.proofs.Spanning.{broken_by, dot4-broken_by, Spans-within}
 use borrow.Author.Differences.{ints}
 
 -- ---- each plane once
-same_half_space : (a b : HalfSpace) → a.n ≡ b.n → a.e ≡ b.e → a ≡ b
+pub same_half_space : (a b : HalfSpace) → a.n ≡ b.n → a.e ≡ b.e → a ≡ b
 same_half_space a b p q = λ i. record { n = p i; e = q i }
 
+pub Decides-is_same_plane : (a b : HalfSpace) → Decides (is_same_plane a b) (a ≡ b)
+Decides-is_same_plane a b =
+    Decides-like {P = (a.n ≡ b.n) × (a.e ≡ b.e)} (is_same_plane a b)
+    (λ e. same_half_space a b e.0 e.1)
+    (λ e. (ap (λ (h : HalfSpace). h.n) e, ap (λ (h : HalfSpace). h.e) e))
+    (Decides-and (is_same a.n b.n) (int_eq a.e b.e) (Decides-is_same a.n b.n) (Decides-int_eq a.e b.e))
+
 pub is_same_plane-same : (a b : HalfSpace) → is_same_plane a b ≡ true → a ≡ b
-is_same_plane-same a b e = (decides a b).0 e
-  where
-    decides : (a b : HalfSpace) → Decides (is_same_plane a b) (a ≡ b)
-    decides a b =
-        Decides-like {P = (a.n ≡ b.n) × (a.e ≡ b.e)} (is_same_plane a b)
-        (λ e. same_half_space a b e.0 e.1)
-        (λ e. (ap (λ (h : HalfSpace). h.n) e, ap (λ (h : HalfSpace). h.e) e))
-        (Decides-and (is_same a.n b.n) (int_eq a.e b.e) (Decides-is_same a.n b.n) (Decides-int_eq a.e b.e))
+is_same_plane-same a b e = (Decides-is_same_plane a b).0 e
 
 -- ---- what holds of all elements that pass a test
 module _ {X : Type 0} (P : X → Type 0) (test : X → Bool) where
@@ -80,6 +83,33 @@ faces_bound points =
     All-distinct_by is_same_plane (IsBound points) [] (filter (λ h. supports h points) (candidates points))
     (All-filter (IsBound points) (λ h. supports h points) (candidates points)
     (All-weaker (λ h. is_zero h.n ≡ false) (λ h. supports h points ≡ true → IsBound points h) (λ h z s. record { plane = z; supports = s }) (candidates points) (proper_candidates points)))
+
+-- ---- each face of points within reach keeps what planes keep
+plane_ways : (t : V3 × V3 × V3) (o : Option HalfSpace) → plane_through t.0 t.1 t.2 ≡ o → IsWithin reach t.0 × IsWithin reach t.1 × IsWithin reach t.2 → All IsPlane (both_ways o)
+plane_ways t None e h = All-nil IsPlane
+plane_ways t (Some k) e h =
+    let n = normal_of t.0 t.1 t.2 in
+    let through = plane_through_some t.0 t.1 t.2 k e in
+    let within : IsWithin normal_reach n = IsWithin-cross_of (reach + reach) (difference_of t.1 t.0) (difference_of t.2 t.0) (IsWithin-difference_of reach t.1 t.0 h.1 h.0) (IsWithin-difference_of reach t.2 t.0 h.2 h.0) in
+    let level = dot_of-within normal_reach reach (primitive n) t.0 (IsWithin-primitive n normal_reach within) h.0 in
+    let plane : IsPlane k = rw through.same (IsPlane-with n (primitive n) (dot_of (primitive n) t.0) through.apart within refl (omega (arith, level))) in
+    let turned : IsPlane (flipped k) = IsPlane-opposite k (opposite_of k.n) (pos 0 -ℤ k.e) refl (IsWithin-opposite_of normal_reach k.n plane.within) (omega (arith, unsigned_abs-opposite k.e, plane.offset_within)) plane in
+    All-cons IsPlane k (flipped k ∷ []) plane (All-cons IsPlane (flipped k) [] turned (All-nil IsPlane))
+
+IsPlane-candidates : (points : List V3) → All (IsWithin reach) points → All IsPlane (candidates points)
+IsPlane-candidates points h = over (triples_of points) (All-triples_of (IsWithin reach) points h)
+  where
+    over : (ts : List (V3 × V3 × V3)) → All (λ t. IsWithin reach t.0 × IsWithin reach t.1 × IsWithin reach t.2) ts → All IsPlane (flat_map (λ t. both_ways (plane_through t.0 t.1 t.2)) ts)
+    over [] k = All-nil IsPlane
+    over (t ∷ ts) k =
+        let P : V3 × V3 × V3 → Type 0 = λ t. IsWithin reach t.0 × IsWithin reach t.1 × IsWithin reach t.2 in
+        All-append IsPlane (both_ways (plane_through t.0 t.1 t.2)) (flat_map (λ t. both_ways (plane_through t.0 t.1 t.2)) ts) (plane_ways t (plane_through t.0 t.1 t.2) refl (All-head P t ts k)) (over ts (All-tail P t ts k))
+
+pub IsPlane-faces_of : (points : List V3) → All (IsWithin reach) points → All IsPlane (faces_of points)
+IsPlane-faces_of points h =
+    All-distinct_by is_same_plane IsPlane [] (filter (λ h. supports h points) (candidates points))
+    (All-filter IsPlane (λ h. supports h points) (candidates points)
+    (All-weaker IsPlane (λ k. supports k points ≡ true → IsPlane k) (λ k p _. p) (candidates points) (IsPlane-candidates points h)))
 
 -- ---- a point that the faces hold at breaks no half-space that bounds the points: it would break a candidate that does
 pub implied : (vertices : List V3) → are_coplanar vertices ≡ false → (h : HalfSpace) → supports h vertices ≡ true → (p : Vec4) → is_in (faces_of vertices) p ≡ true → IsAtMost h p

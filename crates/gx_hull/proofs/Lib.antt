@@ -1,2 +1,3 @@
 mod HullFacts
 mod Loops
+mod InMother

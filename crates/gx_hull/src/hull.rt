@@ -1,16 +1,19 @@
-ghost use Rattle.std.specs.Prelude.{◌≡◌, ◌≤◌, ◌<◌, length, unsigned_abs, All, false, IfOk, IfErr};
+ghost use Rattle.std.specs.Prelude.{◌≡◌, ◌≤◌, ◌<◌, length, map, unsigned_abs, All, false, IfOk, IfErr};
 ghost use Rattle.gx_num.specs.declared.vector.TheConstants.{M};
 ghost use Rattle.gx_num.specs.Vector.{IsWithin};
 ghost use Rattle.gx_plane.specs.Plane.{reach};
 ghost use Rattle.gx_convex.specs.Faces.{faces_of};
 ghost use Rattle.gx_convex.specs.Extent.{extent_of};
+ghost use Rattle.gx_rotation.specs.Place.{placed_point};
 ghost use Rattle.gx_hull.specs.Hull.{hull_of, IsVertices, IsHullCause};
 
 use crate::HullFault;
 use crate::faces::{are_coplanar, faces};
+use crate::placed::{placed_faces, placed_points};
 use crate::points::{distinct, extent};
 use gx_num::{Extent, NoMemory, V3};
 use gx_plane::Plane;
+use gx_rotation::Rotation;
 use std::alloc::Global;
 use std::marker::Model;
 
@@ -66,6 +69,24 @@ impl Hull {
             vertices: Vec::from_slice(alloc, &self.vertices)?,
             faces: Vec::from_slice(alloc, &self.faces)?,
             extent: self.extent,
+        })
+    }
+
+    /// The hull in a mother's frame, where it has this rotation and offset: the vertices are placed, in their order.
+    pub fn placed(&self, alloc: Global, rotation: Rotation, offset: V3) -> Result<Hull, NoMemory>
+        requires vertices { All (IsWithin (unsigned_abs M)) self.now }
+        requires offset { IsWithin (unsigned_abs M) offset }
+        ensures { IfOk result (λ hull. hull ≡ map (placed_point rotation offset) self.now) }
+    {
+        // What each rotation keeps is known from here on.
+        let _ = rotation.index();
+        let vertices = placed_points(alloc, rotation, offset, &self.vertices)?;
+        let faces = placed_faces(alloc, rotation, offset, &self.faces)?;
+        let extent = extent(&vertices);
+        Ok(Hull {
+            vertices,
+            faces,
+            extent,
         })
     }
 

@@ -4,6 +4,7 @@
 mod faces;
 mod fault;
 mod hull;
+mod placed;
 mod points;
 mod solid;
 #[cfg(test)]

@@ -5,6 +5,7 @@ ghost use Rattle.gx_num.specs.declared.vector.TheConstants.{M};
 use crate::{Hull, HullFault};
 use gx_num::{Extent, V3};
 use gx_plane::Plane;
+use gx_rotation::Rotation;
 use std::alloc::{AllocError, Global};
 use std::test::Fail;
 
@@ -86,5 +87,33 @@ fn what_is_a_hull_and_what_is_not(rt: HostRuntime) -> Result<(), Fail> {
     assert_eq!(rt; count(alloc, &once[..3]), Err(HullFault::Flat));
     assert_eq!(rt; count(alloc, &line(alloc, 32)?), Ok(32));
     assert_eq!(rt; count(alloc, &line(alloc, 33)?), Err(HullFault::Vertices));
+    Ok(())
+}
+
+// By hand: rotation 5, a quarter turn about x, takes (x, y, z) to (x, -z, y), so (x, y, z) of the daughter is at
+// (x, z, -y) before the offset.
+#[test]
+fn a_hull_is_placed_with_its_faces(rt: HostRuntime) -> Result<(), Fail> {
+    let alloc = rt.alloc();
+    let own = [
+        point(0, 0, 0),
+        point(4, 0, 0),
+        point(0, 4, 0),
+        point(0, 0, 4),
+    ];
+    let placed = [
+        point(0, 11, 0),
+        point(4, 11, 0),
+        point(0, 11, -4),
+        point(0, 15, 0),
+    ];
+    let hull = Hull::new(alloc, Vec::from_slice(alloc, &own)?);
+    let moved = Hull::new(alloc, Vec::from_slice(alloc, &placed)?);
+    let (hull, moved) = (hull.ok().ok_or("a hull")?, moved.ok().ok_or("a hull")?);
+    let turned = hull.placed(alloc, Rotation::new(5), point(0, 11, 0));
+    let turned = turned.ok().ok_or("a placed hull")?;
+    assert!(rt; turned.vertices() == placed.as_slice());
+    assert!(rt; turned.faces() == moved.faces());
+    assert_eq!(rt; turned.extent(), moved.extent());
     Ok(())
 }

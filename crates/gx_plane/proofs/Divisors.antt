@@ -1,5 +1,5 @@
 -- The common divisor of a vector's components, and the vector divided by it.
-use Rattle.std.proofs.Common.{◌≡◌, ◌⊎◌, inl, inr, ℕ, zero, suc, ◌*◌, ◌≤◌, ◌<◌, ◌/◌, Bool, true, false, ◌&&◌, ◌==◌, List, [], ◌∷◌, ℤ, pos, negsuc, ◌-ℤ◌, unsigned_abs, int_div, neg_ℤ, refl, sym, ap, ◌∙◌, subst, arith, eqb-true, div-le_self, true≢false}
+use Rattle.std.proofs.Common.{◌≡◌, ◌⊎◌, inl, inr, ℕ, ◌≤◌, ◌<◌, Bool, true, false, ◌&&◌, ◌==◌, List, [], ◌∷◌, ℤ, pos, ◌-ℤ◌, unsigned_abs, int_div, refl, sym, ap, ◌∙◌, subst, arith, eqb-true, div-le_self, true≢false}
 use Rattle.std.specs.Int.{IsGcd, ◌∣◌}
 use Rattle.std.proofs.lemmas.Nat.Gcd.{le_of_dvd}
 use Rattle.std.proofs.Math.Nat.{eq-zero_of_zero-dvd}
@@ -31,7 +31,7 @@ divisor_of-opposite v =
     ap common_divisor (λ i. unsigned_abs-opposite v.x i ∷ unsigned_abs-opposite v.y i ∷ unsigned_abs-opposite v.z i ∷ [])
 
 -- ---- only the zero vector has the divisor 0
-divisor_of-zero : common_divisor (0 ∷ 0 ∷ 0 ∷ []) ≡ 0
+pub divisor_of-zero : common_divisor (0 ∷ 0 ∷ 0 ∷ []) ≡ 0
 unfolding common_divisor
 divisor_of-zero = refl
 

@@ -1,10 +1,13 @@
 -- What is computed of each number of a rotation.
-use Rattle.std.proofs.Common.{◌≡◌, ℕ, ◌/◌, ◌%◌, false, not, nat_eq, ◌<◌, [], refl, sym, ap, ◌∙◌, slice_index_or, ltb, true, pos}
+use Rattle.std.proofs.Common.{◌≡◌, ℕ, zero, suc, ◌/◌, ◌%◌, Bool, false, not, nat_eq, ◌<◌, ◌≤◌, [], refl, sym, ap, ◌∙◌, subst, arith, slice_index_or, ltb, true, pos, unsigned_abs}
 use Rattle.std.proofs.Math.Bool.{beq}
 use borrow.Author.Tests.{ltb-true}
 use Rattle.gx_rotation.specs.declared.rotation.TheConstants.{PRODUCTS, INVERSES, PERMUTATIONS}
-use Rattle.gx_rotation.specs.Matrix.{Matrix, product, transpose, identity, determinant, is_same_matrix}
-use Rattle.gx_rotation.specs.Rotation.{matrix_of, number_of, number_of-matrix_of, signed_rows, takes_axes_to_axes}
+use Rattle.std.proofs.lemmas.Int.{ints}
+use Rattle.gx_num.specs.declared.vector.V3.{V3}
+use Rattle.gx_num.specs.Vector.{IsWithin, dot_of, cross_of}
+use Rattle.gx_rotation.specs.Matrix.{Matrix, product, image, transpose, identity, determinant, is_same_matrix}
+use Rattle.gx_rotation.specs.Rotation.{matrix_of, number_of, number_of-matrix_of, unit_vector, signed_rows, takes_axes_to_axes}
 use Rattle.gx_rotation.proofs.Each.{each, each_pair, values}
 
 abbrev pub product_at : ℕ → ℕ → ℕ
@@ -44,6 +47,14 @@ pub proper : (k : ℕ) → k < 24 → determinant (matrix_of k) ≡ pos 1
 unfolding matrix_of
 proper = each (λ k. determinant (matrix_of k)) (λ k. pos 1) 24 refl
 
+-- each row is the vector product of the two others, in turn
+abbrev pub crossed : Matrix → Matrix
+crossed m = record { x = cross_of m.y m.z; y = cross_of m.z m.x; z = cross_of m.x m.y }
+
+pub crossed-transpose : (k : ℕ) → k < 24 → crossed (transpose (matrix_of k)) ≡ transpose (matrix_of k)
+unfolding matrix_of
+crossed-transpose = each (λ k. crossed (transpose (matrix_of k))) (λ k. transpose (matrix_of k)) 24 refl
+
 abbrev column : ℕ → ℕ → ℕ
 column k i = slice_index_or (slice_index_or PERMUTATIONS (k / 4) ([], false)).0 i 0
 
@@ -66,3 +77,26 @@ matrix_of-read = each matrix_of read 24 refl
 pub nat_eq-is_same_matrix : (i j : ℕ) → i < 24 → j < 24 → nat_eq i j ≡ is_same_matrix (matrix_of i) (matrix_of j)
 unfolding matrix_of
 nat_eq-is_same_matrix i j h k = each_pair nat_eq (λ i j. is_same_matrix (matrix_of i) (matrix_of j)) 24 24 refl i j h k
+
+-- ---- the image of a vector is no larger on any axis
+unit_within : (axis : ℕ) (negative : Bool) (b : ℕ) (v : V3) → axis < 3 → IsWithin b v → unsigned_abs (dot_of (unit_vector axis negative) v) ≤ b
+unit_within zero true b v lt h = omega (arith, ints, h.x)
+unit_within zero false b v lt h = omega (arith, ints, h.x)
+unit_within (suc zero) true b v lt h = omega (arith, ints, h.y)
+unit_within (suc zero) false b v lt h = omega (arith, ints, h.y)
+unit_within (suc (suc zero)) true b v lt h = omega (arith, ints, h.z)
+unit_within (suc (suc zero)) false b v lt h = omega (arith, ints, h.z)
+unit_within (suc (suc (suc n))) negative b v lt h = absurd (omega (arith, lt))
+
+IsWithin-image : (k : ℕ) → k < 24 → (b : ℕ) (v : V3) → IsWithin b v → IsWithin b (image (matrix_of k) v)
+IsWithin-image k lt b v h = rw (matrix_of-read k lt) (record {
+  x = unit_within (column k 0) _ b v (column-below k 0 lt (omega arith)) h;
+  y = unit_within (column k 1) _ b v (column-below k 1 lt (omega arith)) h;
+  z = unit_within (column k 2) _ b v (column-below k 2 lt (omega arith)) h;
+})
+
+inverse_at-below : (k : ℕ) → k < 24 → slice_index_or INVERSES k 0 < 24
+inverse_at-below k lt = ltb-true _ _ (each (λ k. ltb (slice_index_or INVERSES k 0) 24) (λ k. true) 24 refl k lt)
+
+pub IsWithin-image_back : (k : ℕ) → k < 24 → (b : ℕ) (v : V3) → IsWithin b v → IsWithin b (image (transpose (matrix_of k)) v)
+IsWithin-image_back k lt b v h = subst (λ (m : Matrix). IsWithin b (image m v)) (matrix_of-inverse_at k lt) (IsWithin-image (slice_index_or INVERSES k 0) (inverse_at-below k lt) b v h)

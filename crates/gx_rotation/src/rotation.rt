@@ -1,4 +1,4 @@
-ghost use Rattle.std.specs.Prelude.{◌≡◌, ◌<◌, ◌^◌};
+ghost use Rattle.std.specs.Prelude.{◌≡◌, ℕ, ◌<◌, ◌^◌};
 ghost use Rattle.gx_num.specs.Vector.{IsWithin, dot_of};
 ghost use Rattle.gx_rotation.specs.Matrix.{product, transpose, identity, image, is_same_matrix, is_same_matrix-equivalence};
 ghost use Rattle.std.specs.Cmp.{partial_equiv_from_equiv};
@@ -136,6 +136,17 @@ impl Rotation {
             y: signed_component(v, columns[1], negative_y),
             z: signed_component(v, columns[2], negative_z),
         }
+    }
+
+    /// The vector turned back; its components are no larger.
+    pub fn undo(self, v: V3) -> V3
+        requires { IsWithin (2 ^ 61) v }
+        ensures value { result ≡ image (transpose self) v }
+        ensures within { (bound : ℕ) → IsWithin bound v → IsWithin bound result }
+    {
+        // What each rotation keeps is known from here on.
+        let _ = &self.index;
+        self.inverse().apply(v)
     }
 }
 

@@ -1,0 +1,4 @@
+pub mod Moved
+pub mod Placed
+pub mod Sizes
+pub mod Turned
