@@ -5,7 +5,7 @@ use gx_io::{MemSink, MemSource};
 use gx_num::{V3, cmp_products, gcd, sign};
 use gx_reader::{ReadError, TextFault};
 use gx_table::FaultName;
-use gx_text::{LineFault, Lines, Name, is_name};
+use gx_text::{LineError, LineFault, Lines, Name, is_name};
 use std::alloc::Global;
 use std::cmp::Ordering;
 use std::marker::Brand;
@@ -349,7 +349,7 @@ fn lines_and_names(rt: HostRuntime) -> Result<(), Fail> {
     let mut lines = Lines::new(alloc);
     assert!(rt; lines.push(b'a')?.is_none());
     assert!(rt; lines.push(b'\r')?.is_none());
-    let fault = LineFault::NotAscii { line: 1, column: 2 };
+    let fault = LineError::Fault(LineFault::NotAscii { line: 1, column: 2 });
     assert!(rt; matches!(&lines.push(b'b'), Err(first) if *first == fault));
     assert!(rt; matches!(&lines.finish(), Err(again) if *again == fault));
     let name = Name::new(alloc, b"world")?;

@@ -7,7 +7,8 @@ use Rattle.std.proofs.lemmas.List.Elements.{All-append}
 use Rattle.std.proofs.lemmas.List.Splits.{slice_split_at, slice_split_none}
 use Rattle.gx_fraction.specs.Fraction.{Fraction}
 use Rattle.gx_text.specs.declared.lines.LineFault.{LineFault}
-use Rattle.gx_text.specs.declared.lines.LineFault.TheVariants.{LongLine, NotAscii, NoMemory}
+use Rattle.gx_text.specs.declared.lines.LineError.{LineError}
+use Rattle.gx_text.specs.declared.lines.LineError.TheVariants.{Fault, NoMemory}
 use Rattle.gx_text.specs.TextLine.{TextLine}
 use Rattle.gx_text.specs.Lines.{cut, ended, ended_with, fault_of}
 use Rattle.gx_text.specs.ScannerState.{ScannerState, Step, ending, going_on, number_after, after_bytes, Answers, AnswersEnd}
@@ -27,8 +28,8 @@ ok_same a b e = cc
 ok_err : {A E : Type 0} (a : A) (e : E) → Ok a ≡ Err e → ⊥
 ok_err a e q = cc
 
-err_same : {A E : Type 0} (a b : E) → ◌≡◌ {A = Result A E} (Err a) (Err b) → a ≡ b
-err_same a b e = cc
+fault_same : {A : Type 0} (a b : LineFault) → ◌≡◌ {A = Result A LineError} (Err (Fault a)) (Err (Fault b)) → a ≡ b
+fault_same a b e = cc
 
 pub through_le : (text : List ℕ) → length (take_through 10 text) ≤ length text
 through_le [] = omega arith
@@ -52,7 +53,7 @@ module _ (grid : Fraction) (d : Declarations) where
   -- a step of a text: its answer is a line, or the text's fault
   record Steps (s : ScannerState) (text : List ℕ) (step : Step) (rest : List ℕ) : Type 0 where
     goes : (o : Option TextLine) → step.answer ≡ Ok o → Goes s text o step.state rest
-    stops : (fault : LineFault) → step.answer ≡ Err fault → resumed grid d s text ≡ Err (line_fault fault)
+    stops : (fault : LineFault) → step.answer ≡ Err (Fault fault) → resumed grid d s text ≡ Err (line_fault fault)
 
   module _ (number : ℕ) (line : List ℕ) (text : List ℕ) (kept : IsOpen (length text) (Scanning number line)) (some : 0 < length text) where
     -- a line that is ended by a LF
@@ -71,16 +72,16 @@ module _ (grid : Fraction) (d : Declarations) where
       ended_by : (r : Result (Option TextLine) LineFault) → ended number (line ++ part) ≡ r → Steps (Scanning number line) text (ending number r) rest
       ended_by (Ok o) e = record {
         goes = λ other is. record {
-          same = lines_are ∙ ap (λ r. (with_line grid d r >>= (λ next. read_lines grid next (number + 1) (cut rest)))) (e ∙ is)
+          same = lines_are ∙ ap (λ r. (with_line grid d r >>= (λ next. read_lines grid next (number + 1) (cut rest)))) (e ∙ ap Ok (ok_same o other is))
               ∙ ap (λ n. (with_line grid d (Ok other) >>= (λ next. read_lines grid next n (cut rest)))) (sym count);
           kept = (λ k d h. absurd (omega arith), omega (arith, kept.1, count, size));
           shorter = omega (arith, size);
         };
-        stops = λ fault is. absurd (ok_err o fault is);
+        stops = λ fault is. absurd (ok_err o (Fault fault) is);
       }
       ended_by (Err fault) e = record {
-        goes = λ o is. absurd (ok_err o fault (sym is));
-        stops = λ other is. lines_are ∙ ap (λ r. (with_line grid d r >>= (λ next. read_lines grid next (number + 1) (cut rest)))) (e ∙ is);
+        goes = λ o is. absurd (ok_err o (Fault fault) (sym is));
+        stops = λ other is. lines_are ∙ ap (λ r. (with_line grid d r >>= (λ next. read_lines grid next (number + 1) (cut rest)))) (e ∙ ap Err (fault_same fault other is));
       }
 
     -- the bytes before the text's end
@@ -101,11 +102,11 @@ module _ (grid : Fraction) (d : Declarations) where
       last_by : (o : Option LineFault) → fault_of number (line ++ text) ≡ o → Steps (Scanning number line) text (going_on number (line ++ text) o) []
       last_by None e = record {
         goes = λ o is. subst (λ o. Goes (Scanning number line) text o (Scanning number (line ++ text)) []) (ok_same None o is) going;
-        stops = λ fault is. absurd (ok_err None fault is);
+        stops = λ fault is. absurd (ok_err None (Fault fault) is);
       }
       last_by (Some fault) e = record {
-        goes = λ o is. absurd (ok_err o fault (sym is));
-        stops = λ other is. last_line ∙ ap (λ o. with_line grid d (ended_with number (line ++ text) o)) e ∙ ap (λ f. Err (line_fault f)) (err_same fault other is);
+        goes = λ o is. absurd (ok_err o (Fault fault) (sym is));
+        stops = λ other is. last_line ∙ ap (λ o. with_line grid d (ended_with number (line ++ text) o)) e ∙ ap (λ f. Err (line_fault f)) (fault_same fault other is);
       }
 
     resumes_by : (place : Option ℕ) → position is_lf text ≡ place
@@ -131,10 +132,11 @@ module _ (grid : Fraction) (d : Declarations) where
   take_goes (Failed fault) text o new kept some answer = absurd kept
   take_goes (Scanning number line) text o new kept some answer = rw answer.ok.1 ((resumes (Scanning number line) text kept some).goes o answer.ok.0)
 
-  pub take_stops : (s : ScannerState) (text : List ℕ) (fault : LineFault) (new : ScannerState) → IsOpen (length text) s → 0 < length text
-      → Answers s (after_bytes s (take_through 10 text)) new (Err fault) → fault ≢ NoMemory → resumed grid d s text ≡ Err (line_fault fault)
-  take_stops (Failed first) text fault new kept some answer other = absurd kept
-  take_stops (Scanning number line) text fault new kept some answer other = (resumes (Scanning number line) text kept some).stops fault (answer.cause other)
+  pub take_stops : (s : ScannerState) (text : List ℕ) (error : LineError) (new : ScannerState) → IsOpen (length text) s → 0 < length text
+      → Answers s (after_bytes s (take_through 10 text)) new (Err error) → IsCause (resumed grid d s text) (error_of error)
+  take_stops (Failed first) text error new kept some answer = absurd kept
+  take_stops (Scanning number line) text (Fault fault) new kept some answer = (resumes (Scanning number line) text kept some).stops fault (answer.cause (λ e. cc))
+  take_stops (Scanning number line) text NoMemory new kept some answer = tt
 
   end_is : (number : ℕ) (line : List ℕ) → HasNoLf line → resumed grid d (Scanning number line) [] ≡ with_line grid d (ended number line)
   end_is number line clear =
@@ -146,15 +148,10 @@ module _ (grid : Fraction) (d : Declarations) where
   ends (Failed fault) o kept answer = absurd kept
   ends (Scanning number line) o kept answer = end_is number line kept.0 ∙ ap (with_line grid d) answer.0
 
-  pub end_stops : (s : ScannerState) (fault : LineFault) → IsOpen 0 s → AnswersEnd s (Err fault) → fault ≢ NoMemory → resumed grid d s [] ≡ Err (line_fault fault)
-  end_stops (Failed first) fault kept answer other = absurd kept
-  end_stops (Scanning number line) fault kept answer other = end_is number line kept.0 ∙ ap (with_line grid d) (answer.1 other)
-
--- a line's fault is the text's, unless memory is wanting
-pub cause_of : {A : Type 0} (fault : LineFault) (read : Result A TextFault) → (fault ≢ NoMemory → read ≡ Err (line_fault fault)) → IsCause read (error_of fault)
-cause_of (LongLine line) read h = h (λ e. cc)
-cause_of (NotAscii line column) read h = h (λ e. cc)
-cause_of NoMemory read h = tt
+  pub end_stops : (s : ScannerState) (error : LineError) → IsOpen 0 s → AnswersEnd s (Err error) → IsCause (resumed grid d s []) (error_of error)
+  end_stops (Failed first) error kept answer = absurd kept
+  end_stops (Scanning number line) (Fault fault) kept answer = end_is number line kept.0 ∙ ap (λ found. with_line grid d (ended_with number line found)) answer.1
+  end_stops (Scanning number line) NoMemory kept answer = tt
 
 -- a fault of what comes first is the whole's
 pub cause_then : {A B : Type 0} (e : ReadError) (first : Result A TextFault) (next : A → Result B TextFault) → IsCause first e → IsCause ((first >>= next)) e

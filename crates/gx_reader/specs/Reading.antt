@@ -6,7 +6,7 @@ use Rattle.gx_form.specs.First.{◌>>=◌}
 use Rattle.gx_table.specs.declared.fault.FaultName.{FaultName}
 use Rattle.gx_table.specs.declared.fault.FaultName.TheVariants.{NotBuilt, LongText, LongLine as LongLineName, NotAscii as NotAsciiName}
 use Rattle.gx_text.specs.declared.lines.LineFault.{LineFault}
-use Rattle.gx_text.specs.declared.lines.LineFault.TheVariants.{LongLine, NotAscii, NoMemory as NoLineMemory}
+use Rattle.gx_text.specs.declared.lines.LineFault.TheVariants.{LongLine, NotAscii}
 use Rattle.gx_text.specs.TextLine.{TextLine}
 use Rattle.gx_text.specs.Lines.{cut, ended}
 use Rattle.gx_tree.specs.World.{World}
@@ -24,7 +24,6 @@ fault_at line word name = record { line = line; word = word; name = name }
 abbrev pub line_fault : LineFault → TextFault
 line_fault (LongLine line) = fault_at line 0 LongLineName
 line_fault (NotAscii line column) = fault_at line column NotAsciiName
-line_fault NoLineMemory = fault_at 0 0 NotBuilt
 
 -- a line's own fault, or what it declares; one without a word declares nothing
 abbrev pub with_line : Fraction → Declarations → Result (Option TextLine) LineFault → Result Declarations TextFault

@@ -10,25 +10,27 @@ use crate::fault::{ReadError, TextFault};
 use crate::input::Input;
 use gx_expr::Grid;
 use gx_table::FaultName;
-use gx_text::{Line, LineFault, Lines};
+use gx_text::{Line, LineError, LineFault, Lines};
 use std::alloc::Global;
 
 /// The most bytes of a text.
 pub const MAX_TEXT: usize = 67108864;
 
-impl From<LineFault> for ReadError {
+impl From<LineError> for ReadError {
     ghost use Rattle.std.specs.Prelude.{◌≡◌};
     ghost use Rattle.gx_reader.specs.Resumed.{error_of};
 
-    ghost from_gives = { λ fault e. e ≡ error_of fault };
+    ghost from_gives = { λ error e. e ≡ error_of error };
 
-    fn from(fault: LineFault) -> Self {
-        match fault {
-            LineFault::NoMemory => ReadError::NoMemory,
-            LineFault::LongLine { line } => text_fault(line, 0, FaultName::LongLine),
-            LineFault::NotAscii { line, column } => {
+    fn from(error: LineError) -> Self {
+        match error {
+            LineError::Fault(LineFault::LongLine { line }) => {
+                text_fault(line, 0, FaultName::LongLine)
+            }
+            LineError::Fault(LineFault::NotAscii { line, column }) => {
                 text_fault(line, column, FaultName::NotAscii)
             }
+            LineError::NoMemory => ReadError::NoMemory,
         }
     }
 }

@@ -10,8 +10,10 @@ use Rattle.std.proofs.Math.ListN.{drop_of_length-le}
 use Rattle.std.proofs.Math.Seq.{take-append_seam}
 use Rattle.gx_text.specs.declared.lines.LineFault.{LineFault}
 use Rattle.gx_text.specs.declared.lines.LineFault.TheVariants.{LongLine}
+use Rattle.gx_text.specs.declared.lines.LineError.{LineError}
+use Rattle.gx_text.specs.declared.lines.LineError.TheVariants.{Fault, NoMemory}
 use Rattle.gx_text.specs.declared.lines.TheConstants.{MAX_LINE}
-use Rattle.gx_text.specs.Lines.{begins_comment, before_comment, visible_of, fault_at, fault_of, is_allowed}
+use Rattle.gx_text.specs.Lines.{IsCause, begins_comment, before_comment, visible_of, fault_at, fault_of, is_allowed}
 use Rattle.gx_text.specs.PartialLine.{has_comment, ends, brings_nothing}
 
 abbrev bad : ℕ → Bool
@@ -258,7 +260,7 @@ fault_stays number line (b ∷ rest) fault h =
     ap (fault_of number) (sym (append_assoc line (b ∷ []) rest)) ∙ fault_stays number (line ++ b ∷ []) rest fault (fault_stays_one number line b fault h)
 
 -- a fault that one of more bytes decides
-pub fault_within : (number : ℕ) (line bytes : List ℕ) (i : ℕ) (fault : LineFault) → i < length bytes → fault_of number ((line ++ take i bytes) ++ get_or bytes i 0 ∷ []) ≡ Some fault
+fault_within : (number : ℕ) (line bytes : List ℕ) (i : ℕ) (fault : LineFault) → i < length bytes → fault_of number ((line ++ take i bytes) ++ get_or bytes i 0 ∷ []) ≡ Some fault
     → fault_of number (line ++ bytes) ≡ Some fault
 fault_within number line bytes i fault h found =
     let b = get_or bytes i 0 in
@@ -266,6 +268,10 @@ fault_within number line bytes i fault h found =
     append_assoc (line ++ take i bytes) (b ∷ []) (drop (i + 1) bytes) ∙ ap (λ rest. (line ++ take i bytes) ++ rest) (sym (drop_more bytes i 0 h))
     ∙ append_assoc line (take i bytes) (drop i bytes) ∙ ap (λ rest. line ++ rest) (take-append-drop i bytes) in
     ap (fault_of number) (sym whole) ∙ fault_stays number ((line ++ take i bytes) ++ b ∷ []) (drop (i + 1) bytes) fault found
+
+pub cause_within : (number : ℕ) (line bytes : List ℕ) (i : ℕ) (error : LineError) → i < length bytes → IsCause (fault_of number ((line ++ take i bytes) ++ get_or bytes i 0 ∷ [])) error → IsCause (fault_of number (line ++ bytes)) error
+cause_within number line bytes i (Fault fault) h found = fault_within number line bytes i fault h found
+cause_within number line bytes i NoMemory h found = tt
 
 no_place : (number : ℕ) (line : List ℕ) (o : Option ℕ) → fault_at number line o ≡ None → o ≡ None
 no_place number line None e = refl

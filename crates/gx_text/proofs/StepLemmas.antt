@@ -9,10 +9,11 @@ use Rattle.std.proofs.lemmas.List.Elements.{All-cons, All-head, All-tail}
 use Rattle.std.proofs.lemmas.List.Folds.{fold_stays}
 use Rattle.std.proofs.lemmas.List.Sums.{fold-append}
 use Rattle.gx_text.specs.declared.lines.LineFault.{LineFault}
-use Rattle.gx_text.specs.declared.lines.LineFault.TheVariants.{NoMemory}
+use Rattle.gx_text.specs.declared.lines.LineError.{LineError}
+use Rattle.gx_text.specs.declared.lines.LineError.TheVariants.{Fault, NoMemory}
 use Rattle.gx_text.specs.TextLine.{TextLine}
-use Rattle.gx_text.specs.Lines.{ended, ended_with, fault_of}
-use Rattle.gx_text.specs.ScannerState.{ScannerState, Step, state_of, fault_in, failing, going_on, ending, next_line, after_byte, after_bytes, IsTaken, Answers}
+use Rattle.gx_text.specs.Lines.{IsCause, ended, ended_with, fault_of}
+use Rattle.gx_text.specs.ScannerState.{ScannerState, Step, state_of, error_in, failing, going_on, ending, next_line, after_byte, after_bytes, IsTaken, Answers}
 use Rattle.gx_text.specs.ScannerState.ScannerState.{Scanning, Failed}
 use Rattle.gx_text.proofs.FaultLemmas.{fault_stays, position_cons, one_back, none_back, none_some}
 
@@ -22,8 +23,8 @@ HasNoLf part = All (λ b. (b == 10) ≡ false) part
 abbrev next : Step → ℕ → Step
 next step b = after_byte step.state b
 
-after_fault : (fault : LineFault) (bytes : List ℕ) → fold next (failing fault) bytes ≡ failing fault
-after_fault fault bytes = fold_stays next (failing fault) (λ b. refl) bytes
+after_error : (error : LineError) (bytes : List ℕ) → fold next (failing error) bytes ≡ failing error
+after_error error bytes = fold_stays next (failing error) (λ b. refl) bytes
 
 -- what the bytes after one make of a line, by the fault that the one decides
 rest_of : (number : ℕ) (line : List ℕ) (b : ℕ) (rest : List ℕ) (o : Option LineFault) → fault_of number (line ++ b ∷ []) ≡ o
@@ -31,7 +32,7 @@ rest_of : (number : ℕ) (line : List ℕ) (b : ℕ) (rest : List ℕ) (o : Opti
     → fold next (going_on number (line ++ b ∷ []) o) rest ≡ going_on number (line ++ b ∷ rest) (fault_of number (line ++ b ∷ rest))
 rest_of number line b rest None e ih = ih refl ∙ ap (λ whole. going_on number whole (fault_of number whole)) (append_assoc line (b ∷ []) rest)
 rest_of number line b rest (Some fault) e ih =
-    after_fault fault rest
+    after_error (Fault fault) rest
     ∙ sym (ap (going_on number (line ++ b ∷ rest)) (ap (fault_of number) (sym (append_assoc line (b ∷ []) rest)) ∙ fault_stays number (line ++ b ∷ []) rest fault e))
 
 -- bytes of a line decide its fault, or leave it without one
@@ -55,27 +56,35 @@ after_line number line (b ∷ rest) n =
     ∙ lf_after number (line ++ b ∷ rest) _ refl
 
 abbrev Answer : Type 0
-Answer = Result (Option TextLine) LineFault
+Answer = Result (Option TextLine) LineError
 
 -- what is answered from a line that isn't ended
 goes : (step : Step) (new : ScannerState) (o : Option TextLine) → step ≡ record { answer = Ok o; state = new } → IsTaken step new (Ok o)
 goes step new o e = record { ok = (ap (λ step. step.answer) e, sym (ap (λ step. step.state) e)); err = tt; cause = tt }
 
-fails : (step : Step) (fault : LineFault) → (fault ≢ NoMemory → step ≡ failing fault) → IsTaken step (Failed fault) (Err fault)
-fails step fault e = record { ok = tt; err = refl; cause = λ other. ap (λ step. step.answer) (e other) }
+fails : (step : Step) (error : LineError) → (error ≢ NoMemory → step ≡ failing error) → IsTaken step (Failed error) (Err error)
+fails step error e = record { ok = tt; err = refl; cause = λ other. ap (λ step. step.answer) (e other) }
+
+going_fails : (number : ℕ) (line : List ℕ) (error : LineError) → error ≢ NoMemory → IsCause (fault_of number line) error → going_on number line (fault_of number line) ≡ failing error
+going_fails number line (Fault fault) other e = ap (going_on number line) e
+going_fails number line NoMemory other e = absurd (other refl)
+
+ending_fails : (number : ℕ) (line : List ℕ) (error : LineError) → error ≢ NoMemory → IsCause (fault_of number line) error → ending number (ended number line) ≡ failing error
+ending_fails number line (Fault fault) other e = ap (λ found. ending number (ended_with number line found)) e
+ending_fails number line NoMemory other e = absurd (other refl)
 
 module _ (s : ScannerState) (number : ℕ) (line part : List ℕ) (is : s ≡ Scanning number line) (n : HasNoLf part) where
   pub part_goes : fault_of number line ≡ None → fault_of number (line ++ part) ≡ None → Answers s (after_bytes s part) (Scanning number (line ++ part)) (Ok None)
   part_goes h e = rw is (goes _ _ None (after_part number line part (λ _. h) n ∙ ap (going_on number (line ++ part)) e))
 
-  pub part_fails : fault_of number line ≡ None → (fault : LineFault) → (fault ≢ NoMemory → fault_of number (line ++ part) ≡ Some fault) → Answers s (after_bytes s part) (Failed fault) (Err fault)
-  part_fails h fault e = rw is (fails _ fault (λ other. after_part number line part (λ _. h) n ∙ ap (going_on number (line ++ part)) (e other)))
+  pub part_fails : fault_of number line ≡ None → (error : LineError) → IsCause (fault_of number (line ++ part)) error → Answers s (after_bytes s part) (Failed error) (Err error)
+  part_fails h error e = rw is (fails _ error (λ other. after_part number line part (λ _. h) n ∙ going_fails number (line ++ part) error other e))
 
   pub line_goes : (o : Option TextLine) → ended number (line ++ part) ≡ Ok o → Answers s (after_bytes s (part ++ 10 ∷ [])) (next_line s) (Ok o)
   line_goes o e = rw is (goes _ _ o (after_line number line part n ∙ ap (ending number) e))
 
-  pub line_fails : (fault : LineFault) → (fault ≢ NoMemory → ended number (line ++ part) ≡ Err fault) → Answers s (after_bytes s (part ++ 10 ∷ [])) (Failed fault) (Err fault)
-  line_fails fault e = rw is (fails _ fault (λ other. after_line number line part n ∙ ap (ending number) (e other)))
+  pub line_fails : (error : LineError) → IsCause (fault_of number (line ++ part)) error → Answers s (after_bytes s (part ++ 10 ∷ [])) (Failed error) (Err error)
+  line_fails error e = rw is (fails _ error (λ other. after_line number line part n ∙ ending_fails number (line ++ part) error other e))
 
   -- the LF's answer is the line's
   pub line_ends : (later new : ScannerState) (answer : Answer) → later ≡ Scanning number (line ++ part) → Answers later (after_byte later 10) new answer
@@ -83,6 +92,10 @@ module _ (s : ScannerState) (number : ℕ) (line part : List ℕ) (is : s ≡ Sc
   line_ends later new answer is_later taken =
       let from : Answers (Scanning number (line ++ part)) (after_byte (Scanning number (line ++ part)) 10) new answer = rw is_later at taken in
       rw (is, after_line number line part n) from
+
+-- a LF that ends a line with a fault
+pub end_fails : (s : ScannerState) (number : ℕ) (line : List ℕ) → s ≡ Scanning number line → (error : LineError) → IsCause (fault_of number line) error → Answers s (after_byte s 10) (Failed error) (Err error)
+end_fails s number line is error e = rw is (fails _ error (λ other. ending_fails number line error other e))
 
 pub no_bytes : (line : List ℕ) → (length line == 0) ≡ true → line ≡ []
 no_bytes [] e = refl
@@ -142,9 +155,9 @@ no_lf [] e = record { all = λ k d h. absurd (omega arith); through = refl }
 no_lf (b ∷ rest) e = no_lf_by b rest _ refl (sym (position_cons is_lf b rest) ∙ e) (no_lf rest)
 
 -- the state of fields that keep no fault
-pub no_fault : (fault : Option LineFault) (number : ℕ) (line : List ℕ) (s : ScannerState) → state_of fault number line ≡ s → fault_in s ≡ None → fault ≡ None
-no_fault None number line s is none = refl
-no_fault (Some fault) number line s is none = absurd (none_some fault (sym (rw (sym is) at none)))
+pub no_error : (error : Option LineError) (number : ℕ) (line : List ℕ) (s : ScannerState) → state_of error number line ≡ s → error_in s ≡ None → error ≡ None
+no_error None number line s is none = refl
+no_error (Some error) number line s is none = absurd (none_some error (sym (rw (sym is) at none)))
 
-pub scanning : (fault : Option LineFault) (number : ℕ) (line : List ℕ) (s : ScannerState) → state_of fault number line ≡ s → fault ≡ None → s ≡ Scanning number line
-scanning fault number line s is none = sym is ∙ ap (λ fault. state_of fault number line) none
+pub scanning : (error : Option LineError) (number : ℕ) (line : List ℕ) (s : ScannerState) → state_of error number line ≡ s → error ≡ None → s ≡ Scanning number line
+scanning error number line s is none = sym is ∙ ap (λ error. state_of error number line) none

@@ -1,9 +1,11 @@
 -- The lines of a text, the words of a line, and the faults of a line.
-use Rattle.std.specs.Prelude.{ℕ, ◌+◌, Bool, false, List, [], ◌∷◌, length, filter, position, Option, Some, None, Result, Ok, Err, ◌==◌, ◌&&◌, ◌||◌, not, nat_le, nat_lt, if◌then◌else◌}
+use Rattle.std.specs.Prelude.{◌≡◌, ℕ, ◌+◌, Bool, false, List, [], ◌∷◌, length, filter, position, Option, Some, None, Result, Ok, Err, ◌==◌, ◌&&◌, ◌||◌, not, nat_le, nat_lt, if◌then◌else◌}
 use Rattle.std.specs.List.{slice_split}
 use Rattle.std.specs.Str.Lines.{strip_carriage_return}
 use Rattle.gx_text.specs.declared.lines.LineFault.{LineFault}
 use Rattle.gx_text.specs.declared.lines.LineFault.TheVariants.{LongLine, NotAscii}
+use Rattle.gx_text.specs.declared.lines.LineError.{LineError}
+use Rattle.gx_text.specs.declared.lines.LineError.TheVariants.{Fault, NoMemory}
 use Rattle.gx_text.specs.declared.lines.TheConstants.{MAX_LINE}
 use Rattle.gx_text.specs.TextLine.{TextLine}
 
@@ -51,6 +53,11 @@ fault_at number line (Some place) = if nat_lt place MAX_LINE then Some (NotAscii
 -- the first fault of a line, if it has one
 abbrev pub fault_of : ℕ → List ℕ → Option LineFault
 fault_of number line = fault_at number line (position (λ b. not (is_allowed b)) (visible_of line))
+
+-- the cause of an error: the fault of the line; want of memory has none
+abbrev pub IsCause : Option LineFault → LineError → Type 0
+IsCause found (Fault fault) = found ≡ Some fault
+IsCause found NoMemory = Unit {0}
 
 -- a line without a word declares nothing
 abbrev pub line_of : ℕ → List (List ℕ) → Option TextLine

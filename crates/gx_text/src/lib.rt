@@ -12,5 +12,5 @@ mod tests;
 mod words;
 
 pub use line::Line;
-pub use lines::{LineFault, Lines};
+pub use lines::{LineError, LineFault, Lines};
 pub use name::{Name, is_name};

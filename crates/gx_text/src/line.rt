@@ -1,9 +1,9 @@
 ghost use Rattle.std.specs.Prelude.{◌≡◌, ◌≢◌, ◌≤◌, ◌-◌, [], ◌++◌, length, slice_index_or, All, Ok, Err, IfOk, IfErr, OnOk};
-ghost use Rattle.gx_text.specs.Lines.{ended, line_of, words_in, is_blank as is_blank_byte};
+ghost use Rattle.gx_text.specs.Lines.{IsCause, ended, fault_of, line_of, words_in, is_blank as is_blank_byte};
 ghost use Rattle.gx_text.specs.Places.{words_at, unless_empty, IsWithin};
 
 use crate::fault::first_fault;
-use crate::lines::{LineFault, MAX_LINE};
+use crate::lines::{LineError, MAX_LINE};
 use crate::words::visible;
 use gx_num::NoMemory;
 use std::alloc::Global;
@@ -39,13 +39,13 @@ impl Model for Line {
 
 impl Line {
     /// What a line with these bytes gives when it is ended: itself, where it has a word, or its fault.
-    pub(crate) fn ended(alloc: Global, number: u32, line: &[u8]) -> Result<Option<Line>, LineFault>
+    pub(crate) fn ended(alloc: Global, number: u32, line: &[u8]) -> Result<Option<Line>, LineError>
         ensures ok { IfOk result (λ read. ended number line.now ≡ Ok read) }
-        ensures err { IfErr result (λ fault. fault ≢ LineFault.NoMemory → ended number line.now ≡ Err fault) }
+        ensures err { IfErr result (IsCause (fault_of number line.now)) }
     {
         let visible = visible(line);
         match first_fault(number, line, visible) {
-            Some(fault) => Err(fault),
+            Some(fault) => Err(LineError::Fault(fault)),
             None => Ok(Line::new(alloc, number, visible)?),
         }
     }

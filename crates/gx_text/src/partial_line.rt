@@ -1,9 +1,9 @@
 ghost use Rattle.std.specs.Prelude.{◌≡◌, ◌≢◌, ◌∷◌, [], ◌++◌, ◌==◌, length, IfErr, OnOk, None, Some};
-ghost use Rattle.gx_text.specs.Lines.{fault_of};
+ghost use Rattle.gx_text.specs.Lines.{IsCause, fault_of};
 ghost use Rattle.gx_text.specs.PartialLine.{has_comment, ends, brings_nothing};
 
 use crate::fault::{first_fault, is_allowed};
-use crate::lines::{LineFault, MAX_LINE};
+use crate::lines::{LineError, MAX_LINE};
 use crate::words::visible;
 use gx_num::NoMemory;
 use std::alloc::Global;
@@ -58,11 +58,11 @@ impl PartialLine {
 
     /// Takes the next byte of a line with this number, or answers the fault that the byte decides.
     #[tactic(auto, using(crate::proofs::FaultLemmas::clear))]
-    pub fn push(&mut self, number: u32, byte: u8) -> Result<(), LineFault>
+    pub fn push(&mut self, number: u32, byte: u8) -> Result<(), LineError>
         requires { fault_of number self.old ≡ None }
         ensures kept { OnOk result (fault_of number (self.old ++ byte ∷ []) ≡ None) }
         ensures line { OnOk result (self.new ≡ self.old ++ byte ∷ []) }
-        ensures err { IfErr result (λ fault. fault ≢ LineFault.NoMemory → fault_of number (self.old ++ byte ∷ []) ≡ Some fault) }
+        ensures err { IfErr result (IsCause (fault_of number (self.old ++ byte ∷ []))) }
     {
         let plain = is_plain(&self.bytes, self.comment, byte);
         let comment = comment_after(&self.bytes, self.comment, byte);
@@ -71,17 +71,17 @@ impl PartialLine {
             return Ok(());
         }
         match first_fault(number, &self.bytes, visible(&self.bytes)) {
-            Some(fault) => Err(fault),
+            Some(fault) => Err(LineError::Fault(fault)),
             None => Ok(()),
         }
     }
 
     /// Takes the next bytes of a line with this number, or answers the fault that one of them decides.
-    pub fn extend(&mut self, number: u32, bytes: &[u8]) -> Result<(), LineFault>
+    pub fn extend(&mut self, number: u32, bytes: &[u8]) -> Result<(), LineError>
         requires { fault_of number self.old ≡ None }
         ensures kept { OnOk result (fault_of number (self.old ++ bytes.now) ≡ None) }
         ensures line { OnOk result (self.new ≡ self.old ++ bytes.now) }
-        ensures err { IfErr result (λ fault. fault ≢ LineFault.NoMemory → fault_of number (self.old ++ bytes.now) ≡ Some fault) }
+        ensures err { IfErr result (IsCause (fault_of number (self.old ++ bytes.now))) }
     {
         for byte in bytes {
             self.push(number, *byte)?;

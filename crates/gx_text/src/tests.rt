@@ -1,5 +1,5 @@
 //! Texts with their lines or their first fault, worked out by hand.
-use crate::{Line, LineFault, Lines};
+use crate::{Line, LineError, LineFault, Lines};
 use std::alloc::Global;
 use std::process::Abort;
 use std::test::Fail;
@@ -9,7 +9,7 @@ use std::test::Fail;
 struct Case<'a> {
     text: &'a [u8],
     lines: &'a str,
-    fault: Option<LineFault>,
+    fault: Option<LineError>,
 }
 
 fn show(alloc: Global, all: &mut String, line: Option<Line>) -> Result<(), Fail> {
@@ -32,7 +32,7 @@ fn feed(
     text: &[u8],
     size: usize,
     all: &mut String,
-) -> Result<Option<LineFault>, Fail> {
+) -> Result<Option<LineError>, Fail> {
     let mut start = 0;
     for byte in text {
         if size == 0 {
@@ -83,14 +83,14 @@ fn check(rt: &impl Abort, alloc: Global, case: &Case<'_>) -> Result<(), Fail> {
     Ok(())
 }
 
-fn not_ascii(line: u32, column: u32) -> Option<LineFault> {
-    Some(LineFault::NotAscii { line, column })
+fn not_ascii(line: u32, column: u32) -> Option<LineError> {
+    Some(LineError::Fault(LineFault::NotAscii { line, column }))
 }
 
 #[test]
 fn each_text_has_its_lines_or_its_fault(rt: HostRuntime) -> Result<(), Fail> {
     let alloc = rt.alloc();
-    let cases: [(&[u8], &str, Option<LineFault>); 20] = [
+    let cases: [(&[u8], &str, Option<LineError>); 20] = [
         (b"", "", None),
         (b"\n\n", "", None),
         (b" a \t b\n\nc\td", "1 a b\n3 c d\n", None),
@@ -124,9 +124,9 @@ fn each_text_has_its_lines_or_its_fault(rt: HostRuntime) -> Result<(), Fail> {
 #[test]
 fn a_line_has_at_most_65536_bytes(rt: HostRuntime) -> Result<(), Fail> {
     let alloc = rt.alloc();
-    let long = Some(LineFault::LongLine { line: 2 });
+    let long = Some(LineError::Fault(LineFault::LongLine { line: 2 }));
     // the byte of which the line is made, how many of them, what comes after, and the fault
-    let cases: [(u8, usize, &[u8], Option<LineFault>); 9] = [
+    let cases: [(u8, usize, &[u8], Option<LineError>); 9] = [
         (b' ', 65536, b"\nb", None),
         (b' ', 65537, b"\nb", long),
         (b' ', 65535, b"\r\nb", None),

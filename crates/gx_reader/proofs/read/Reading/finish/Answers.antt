@@ -2,7 +2,7 @@ use Rattle.std.proofs.Common.{[], ap, ◌∙◌}
 use Rattle.std.proofs.lemmas.Result.{err_from_is_err_and, IfOk-weaker, IfErr-weaker}
 use Rattle.gx_reader.specs.Reading.{input_of, input_from}
 use Rattle.gx_reader.specs.Left.{left_by}
-use Rattle.gx_reader.proofs.Resume.{ends, end_stops, cause_of, cause_then, cause_same}
+use Rattle.gx_reader.proofs.Resume.{ends, end_stops, cause_then, cause_same}
 use Rattle.gx_reader.proofs.read.Reading.finish.Goals as goal
 
 pub returns-in_err-finish-clause-err : goal.returns-in_err-finish-clause-err
@@ -10,7 +10,7 @@ returns-in_err-finish-clause-err c =
     let s = c.args.self in
     let p = err_from_is_err_and c.from_residual.result c.from_residual.ensures.1 in
     let stops = end_stops s.declared.grid s.declared.so_far s.lines c.in_err-finish.field-0.0 c.requires c.in_err-finish.ensures in
-    rw (p.1, p.2) (cause_then _ _ (λ d. input_of d.world d.rays) (cause_of c.in_err-finish.field-0.0 (left_by s []) stops))
+    rw (p.1, p.2) (cause_then _ _ (λ d. input_of d.world d.rays) stops)
 
 pub returns-in_err-declare-clause-err : goal.returns-in_err-declare-clause-err
 returns-in_err-declare-clause-err c =

@@ -4,7 +4,7 @@ use Rattle.std.proofs.lemmas.List.{take_rest}
 use Rattle.std.proofs.lemmas.Result.{err_from_is_err_and}
 use Rattle.gx_form.specs.First.{◌>>=◌}
 use Rattle.gx_reader.specs.Resumed.{resumed}
-use Rattle.gx_reader.proofs.Resume.{take_goes, take_stops, through_le, cause_of, cause_then, cause_same}
+use Rattle.gx_reader.proofs.Resume.{take_goes, take_stops, through_le, cause_then, cause_same}
 use Rattle.gx_reader.proofs.read.Reading.take.Goals as goal
 
 pub returns-in_err-count-clause-err : goal.returns-in_err-count-clause-err
@@ -12,7 +12,7 @@ returns-in_err-count-clause-err c =
     let s = c.args.self.now in
     let fault = c.in_err-count.field-0.0 in
     let p = err_from_is_err_and c.from_residual.result c.from_residual.ensures.1 in
-    rw (p.1, p.2) (cause_of fault _ (take_stops s.declared.grid s.declared.so_far s.lines c.args.text.now fault c.take.new.self c.requires.kept c.requires.some c.in_err-count.ensures.answer))
+    rw (p.1, p.2) (take_stops s.declared.grid s.declared.so_far s.lines c.args.text.now fault c.take.new.self c.requires.kept c.requires.some c.in_err-count.ensures.answer)
 
 pub returns-in_err-declare-clause-err : goal.returns-in_err-declare-clause-err
 returns-in_err-declare-clause-err c =
