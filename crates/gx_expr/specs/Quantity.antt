@@ -1,5 +1,5 @@
 -- Values of expressions: fractions with marks, and their sums, differences, products and quotients.
-use Rattle.std.specs.Prelude.{◌≤◌, ◌<ℤ◌, ℕ, ℤ, pos, neg_ℤ, ◌*ℤ◌, ◌+ℤ◌, ◌-ℤ◌, ◌^◌, unsigned_abs, int_lt, nat_lt, Bool, ◌||◌, Result, Ok, Err, if◌then◌else◌}
+use Rattle.std.specs.Prelude.{◌≤◌, ◌<ℤ◌, ℕ, ℤ, pos, neg_ℤ, ◌*ℤ◌, ◌+ℤ◌, ◌-ℤ◌, ◌^◌, unsigned_abs, int_lt, nat_lt, Bool, not, ◌==◌, ◌&&◌, ◌||◌, Result, Ok, Err, if◌then◌else◌}
 use Rattle.std.specs.Ordering.{int_eq}
 use Rattle.gx_num.specs.Number.{IsLowest}
 use Rattle.gx_fraction.specs.Fraction.{Fraction, lowest, opposite}
@@ -11,6 +11,15 @@ pub record Quantity : Type 0 where
   pub number : Fraction
   pub length : Bool
   pub angle : Bool
+
+-- both or neither
+abbrev pub is_same_mark : Bool → Bool → Bool
+is_same_mark a b = if a then b else not b
+
+-- the same fraction in lowest terms, and the same marks
+abbrev pub is_same_quantity : Quantity → Quantity → Bool
+is_same_quantity a b =
+    int_eq a.number.num b.number.num && (a.number.den == b.number.den) && is_same_mark a.length b.length && is_same_mark a.angle b.angle
 
 -- the greatest that a numerator's magnitude and a denominator may be
 abbrev pub max_width : ℕ

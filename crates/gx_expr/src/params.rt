@@ -1,4 +1,5 @@
-ghost use Rattle.std.specs.Prelude.{◌≡◌, [], ◌↔◌, IsTrue};
+ghost use Rattle.std.specs.Prelude.{◌≡◌, []};
+ghost use Rattle.gx_expr.specs.Quantity.{is_same_quantity};
 
 use crate::{ParamFault, Value};
 use indexmap::IndexMap;
@@ -59,7 +60,7 @@ impl Params {
 }
 
 fn same(a: &Value, b: &Value) -> bool
-    ensures { IsTrue result ↔ (a.now ≡ b.now) }
+    ensures { result ≡ is_same_quantity a.now b.now }
 {
     a == b
 }

@@ -1,6 +1,6 @@
 -- What each line declares, after what the lines before it declared.
 -- Tags and the order of words: the documentation of Geant4's ASCII text geometry format; `:RAY` is this project's own.
-use Rattle.std.specs.Prelude.{ℕ, ◌+◌, ◌-◌, ℤ, pos, Bool, List, [], ◌∷◌, ◌++◌, length, take, drop, replicate, Option, None, Some, Result, Ok, Err, ◌==◌, ◌&&◌, not, nat_le, if◌then◌else◌, slice_index_or, codes, is_some}
+use Rattle.std.specs.Prelude.{ℕ, ◌+◌, ◌-◌, ℤ, pos, Bool, List, [], ◌∷◌, ◌++◌, length, take, drop, replicate, Option, None, Some, Result, Ok, Err, ◌&&◌, not, nat_le, if◌then◌else◌, slice_index_or, codes, is_some}
 use Rattle.std.specs.Ordering.{int_eq}
 use Rattle.std.specs.Str.{bytes_eq}
 use Rattle.gx_num.specs.declared.vector.V3.{V3}
@@ -8,8 +8,7 @@ use Rattle.gx_num.specs.declared.ray.Ray.{Ray}
 use Rattle.gx_fraction.specs.Fraction.{Fraction}
 use Rattle.gx_table.specs.declared.fault.FaultName.TheVariants.{Twice}
 use Rattle.gx_text.specs.TextLine.{TextLine}
-use Rattle.gx_expr.specs.Quantity.{Quantity}
-use Rattle.gx_expr.specs.Param.{Param, value_of_name}
+use Rattle.gx_expr.specs.Param.{Param, with_param}
 use Rattle.gx_tree.specs.World.{World}
 use Rattle.gx_reader.specs.declared.fault.WordFault.{WordFault}
 use Rattle.gx_reader.specs.declared.fault.TextFault.{TextFault}
@@ -75,27 +74,16 @@ vector_at i givens = record { x = number_at i givens; y = number_at (i + 1) give
 
 -- ---- parameters
 
--- equal fractions, and equal marks
-abbrev pub is_same_mark : Bool → Bool → Bool
-is_same_mark a b = if a then b else not b
-
-abbrev pub is_same_worth : Quantity → Quantity → Bool
-is_same_worth a b =
-    int_eq a.number.num b.number.num && (a.number.den == b.number.den) && is_same_mark a.length b.length && is_same_mark a.angle b.angle
-
-abbrev pub with_param : Declarations → List Param → Declarations
-with_param d params = record { params = params; param_lines = d.param_lines + 1; world = d.world; rays = d.rays }
-
--- a name is new, or has this value, or has another one
-abbrev pub param_given : Declarations → List ℕ → Quantity → Option Quantity → Result Declarations WordFault
-param_given d name worth None = Ok (with_param d (d.params ++ record { name = name; value = worth } ∷ []))
-param_given d name worth (Some before) = if is_same_worth before worth then Ok (with_param d d.params) else Err (record { word = 2; name = Twice })
+-- with these parameters, and one line of them more; `Twice` where there are none
+abbrev pub after_param : Declarations → Option (List Param) → Result Declarations WordFault
+after_param d (Some params) = Ok (record { params = params; param_lines = d.param_lines + 1; world = d.world; rays = d.rays })
+after_param d None = Err (record { word = 2; name = Twice })
 
 abbrev pub param_of : Declarations → List ℕ → Given → Result Declarations WordFault
 param_of d name Nothing = Ok d
 param_of d name (Number n) = Ok d
 param_of d name (OfKind kind) = Ok d
-param_of d name (Worthy worth) = param_given d name worth (value_of_name d.params name)
+param_of d name (Worthy worth) = after_param d (with_param d.params name worth)
 
 abbrev pub param_declared : Declarations → List (List ℕ) → Result (List Given) WordFault → Result Declarations WordFault
 param_declared d words (Err fault) = Err fault

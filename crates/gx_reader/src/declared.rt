@@ -184,9 +184,8 @@ impl Declared {
     }
 
     /// The input, where there is a world.
-    pub fn finish(self) -> Result<Input, ReadError>
-        ensures ok { IfOk result (λ input. input_of self.so_far.world self.so_far.rays ≡ Ok input) }
-        ensures err { IfErr result (IsCause (input_of self.so_far.world self.so_far.rays)) }
+    pub fn finish(self) -> Result<Input, TextFault>
+        ensures { result ≡ input_of self.so_far.world self.so_far.rays }
     {
         let Declared {
             alloc: _,
@@ -198,11 +197,11 @@ impl Declared {
         } = self;
         match world {
             Some(tree) => Ok(Input { tree, rays }),
-            None => Err(ReadError::Text(TextFault {
+            None => Err(TextFault {
                 line: 0,
                 word: 0,
                 name: FaultName::NotBuilt,
-            })),
+            }),
         }
     }
 }

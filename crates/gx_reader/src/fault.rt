@@ -27,6 +27,17 @@ pub enum ReadError {
     NoMemory,
 }
 
+impl From<TextFault> for ReadError {
+    ghost use Rattle.std.specs.Prelude.{◌≡◌};
+    ghost use Rattle.gx_reader.specs.declared.fault.ReadError.TheVariants.{Text};
+
+    ghost from_gives = { λ fault e. e ≡ Text fault };
+
+    fn from(fault: TextFault) -> Self {
+        ReadError::Text(fault)
+    }
+}
+
 impl From<AllocError> for ReadError {
     ghost use Rattle.std.specs.Prelude.{◌≡◌};
     ghost use Rattle.gx_reader.specs.declared.fault.ReadError.TheVariants.{NoMemory};

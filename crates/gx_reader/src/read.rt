@@ -84,7 +84,7 @@ impl Reading {
             mut declared,
         } = self;
         declare(&mut declared, lines.finish()?)?;
-        declared.finish()
+        Ok(declared.finish()?)
     }
 }
 

@@ -1,7 +1,6 @@
-use Rattle.std.proofs.Common.{[], ap, ◌∙◌}
-use Rattle.std.proofs.lemmas.Result.{err_from_is_err_and, IfOk-weaker, IfErr-weaker}
+use Rattle.std.proofs.Common.{sym, ap, ◌∙◌}
+use Rattle.std.proofs.lemmas.Result.{err_from_is_err_and}
 use Rattle.gx_reader.specs.Reading.{input_of, input_from}
-use Rattle.gx_reader.specs.Left.{left_by}
 use Rattle.gx_reader.proofs.Resume.{ends, end_stops, cause_then, cause_same}
 use Rattle.gx_reader.proofs.read.Reading.finish.Goals as goal
 
@@ -19,14 +18,15 @@ returns-in_err-declare-clause-err c =
     let same = ends s.declared.grid s.declared.so_far s.lines c.in_ok-finish.field-0 c.requires c.in_ok-finish.ensures in
     rw (p.1, p.2) (cause_same _ _ _ (ap input_from same) (cause_then _ _ (λ d. input_of d.world d.rays) c.in_err-declare.ensures.err))
 
+pub returns-in_err-finish-2-clause-err : goal.returns-in_err-finish-2-clause-err
+returns-in_err-finish-2-clause-err c =
+    let s = c.args.self in
+    let p = err_from_is_err_and c.from_residual-in_err-finish-2.result c.from_residual-in_err-finish-2.ensures.1 in
+    let same = ends s.declared.grid s.declared.so_far s.lines c.in_ok-finish.field-0 c.requires c.in_ok-finish.ensures ∙ c.in_ok-declare.ensures.ok in
+    rw (p.1, p.2) (ap input_from same ∙ sym c.in_err-finish-2.ensures)
+
 pub returns-clause-ok : goal.returns-clause-ok
 returns-clause-ok c =
     let s = c.args.self in
     let same = ends s.declared.grid s.declared.so_far s.lines c.in_ok-finish.field-0 c.requires c.in_ok-finish.ensures ∙ c.in_ok-declare.ensures.ok in
-    IfOk-weaker c.finish-2.result _ _ (λ input e. ap input_from same ∙ e) c.finish-2.ensures.ok
-
-pub returns-clause-err : goal.returns-clause-err
-returns-clause-err c =
-    let s = c.args.self in
-    let same = ends s.declared.grid s.declared.so_far s.lines c.in_ok-finish.field-0 c.requires c.in_ok-finish.ensures ∙ c.in_ok-declare.ensures.ok in
-    IfErr-weaker c.finish-2.result _ _ (λ error h. cause_same error _ _ (ap input_from same) h) c.finish-2.ensures.err
+    ap input_from same ∙ sym c.in_ok-finish-2.ensures
