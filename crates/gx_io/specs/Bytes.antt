@@ -1,12 +1,12 @@
--- What the calls of a source or a sink do to its bytes and to its count of faults.
+-- What the calls of a source or a sink do to its bytes, or to other items that it takes one after another, and to its count of faults.
 use Rattle.std.specs.Prelude.{◌≡◌, ℕ, ◌+◌, ◌-◌, ◌^◌, min, List, ◌++◌, take, length, Option, None, Some, Result, OnOk, OnErr, MatchResult}
 use Rattle.std.specs.Option.{option_map}
 use Rattle.std.specs.Io.KnownBytes.{Appends}
 
--- the bytes that are told, and then these
-unfoldable pub with_after : Option (List ℕ) → List ℕ → Option (List ℕ)
-with_after None bytes = None
-with_after (Some told) bytes = Some (told ++ bytes)
+-- the items that are told, and then these
+unfoldable pub with_after : {A : Type 0} → Option (List A) → List A → Option (List A)
+with_after None items = None
+with_after (Some told) items = Some (told ++ items)
 
 -- these bytes, and then those that are told
 unfoldable pub with_before : List ℕ → Option (List ℕ) → Option (List ℕ)
@@ -14,15 +14,15 @@ with_before bytes None = None
 with_before bytes (Some told) = Some (bytes ++ told)
 
 -- of the whole all was appended but what is pending, its rest
-unfoldable pub AppendsBut : Option (List ℕ) → Option (List ℕ) → List ℕ → List ℕ → Type 0
-AppendsBut old new whole pending = (front : List ℕ) × (whole ≡ front ++ pending) × (new ≡ with_after old front)
+unfoldable pub AppendsBut : {A : Type 0} → Option (List A) → Option (List A) → List A → List A → Type 0
+AppendsBut {A} old new whole pending = (front : List A) × (whole ≡ front ++ pending) × (new ≡ with_after old front)
 
 -- a front of the whole was appended
-unfoldable pub AppendsFront : Option (List ℕ) → Option (List ℕ) → List ℕ → Type 0
-AppendsFront old new whole = (rest : List ℕ) × AppendsBut old new whole rest
+unfoldable pub AppendsFront : {A : Type 0} → Option (List A) → Option (List A) → List A → Type 0
+AppendsFront {A} old new whole = (rest : List A) × AppendsBut old new whole rest
 
 -- all of the whole was appended, or at an error a front of it
-pub record Writes {T E : Type 0} (old new : Option (List ℕ)) (whole : List ℕ) (result : Result T E) : Type 0 where
+pub record Writes {A T E : Type 0} (old new : Option (List A)) (whole : List A) (result : Result T E) : Type 0 where
   pub all : OnOk result (new ≡ with_after old whole)
   pub front : OnErr result (AppendsFront old new whole)
 
