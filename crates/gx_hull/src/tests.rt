@@ -90,6 +90,16 @@ fn what_is_a_hull_and_what_is_not(rt: HostRuntime) -> Result<(), Fail> {
     Ok(())
 }
 
+fn hull(alloc: Global, points: &[V3]) -> Result<Hull, Fail>
+    requires { All (IsWithin (unsigned_abs M)) points.now }
+    ensures { IfOk result (λ hull. All (IsWithin (unsigned_abs M)) hull) }
+{
+    match Hull::new(alloc, Vec::from_slice(alloc, points)?) {
+        Ok(hull) => Ok(hull),
+        Err(_) => Err("a hull")?,
+    }
+}
+
 // By hand: rotation 5, a quarter turn about x, takes (x, y, z) to (x, -z, y), so (x, y, z) of the daughter is at
 // (x, z, -y) before the offset.
 #[test]
@@ -107,9 +117,7 @@ fn a_hull_is_placed_with_its_faces(rt: HostRuntime) -> Result<(), Fail> {
         point(0, 11, -4),
         point(0, 15, 0),
     ];
-    let hull = Hull::new(alloc, Vec::from_slice(alloc, &own)?);
-    let moved = Hull::new(alloc, Vec::from_slice(alloc, &placed)?);
-    let (hull, moved) = (hull.ok().ok_or("a hull")?, moved.ok().ok_or("a hull")?);
+    let (hull, moved) = (hull(alloc, &own)?, hull(alloc, &placed)?);
     let turned = hull.placed(alloc, Rotation::new(5), point(0, 11, 0));
     let turned = turned.ok().ok_or("a placed hull")?;
     assert!(rt; turned.vertices() == placed.as_slice());

@@ -1,11 +1,10 @@
-use crate::{place_plane, place_point};
+use crate::place_point;
 use gx_num::V3;
-use gx_plane::Plane;
 use gx_rotation::Rotation;
 
 // By hand: rotation 10 takes (x, y, z) to (-y, x, z), so a daughter's point (x, y, z) is at (y, -x, z) before the offset.
 #[test]
-fn points_and_planes_are_placed(rt: HostRuntime) {
+fn points_are_placed(rt: HostRuntime) {
     let turned = Rotation::new(10);
     let offset = V3 {
         x: 100,
@@ -26,8 +25,4 @@ fn points_and_planes_are_placed(rt: HostRuntime) {
     for (point, placed) in cases {
         assert_eq!(rt; place_point(turned, offset, point), placed);
     }
-    // The plane x <= 5 of the daughter is -y <= 5 - 20.
-    let face = place_plane(turned, offset, &Plane::along(0, true, 5));
-    assert_eq!(rt; face.n(), V3 { x: 0, y: -1, z: 0 });
-    assert_eq!(rt; face.e(), -15);
 }
