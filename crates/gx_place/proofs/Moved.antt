@@ -1,6 +1,7 @@
 -- Lists of points that are moved: their triples, candidates, faces and distinct ones are moved with them.
-use Rattle.std.proofs.Common.{◌≡◌, Bool, true, false, cond, Option, Some, None, List, [], ◌∷◌, ◌++◌, map, flat_map, filter, int_le, pos, refl, sym, ap}
+use Rattle.std.proofs.Common.{◌≡◌, Bool, true, false, cond, Option, Some, None, List, [], ◌∷◌, map, flat_map, filter, int_le, pos, refl, sym, ap}
 use Rattle.std.specs.List.{list_all, list_any}
+use Rattle.std.proofs.lemmas.List.{map-append}
 use Rattle.std.specs.Option.{option_map}
 use Rattle.std.specs.Ordering.{int_eq}
 use Rattle.gx_num.specs.declared.vector.V3.{V3}
@@ -29,10 +30,6 @@ list_all-map test other f e (x ∷ xs) = rw (e x, list_all-map test other f e xs
 list_any-map : {X Y : Type 0} (test : Y → Bool) (other : X → Bool) (f : X → Y) → ((x : X) → test (f x) ≡ other x) → (xs : List X) → list_any test (map f xs) ≡ list_any other xs
 list_any-map test other f e [] = refl
 list_any-map test other f e (x ∷ xs) = rw (e x, list_any-map test other f e xs) refl
-
-map-append : {X Y : Type 0} (f : X → Y) (xs ys : List X) → map f (xs ++ ys) ≡ map f xs ++ map f ys
-map-append f [] ys = refl
-map-append f (x ∷ xs) ys = ap (λ zs. f x ∷ zs) (map-append f xs ys)
 
 filter-map : {X : Type 0} (test other : X → Bool) (f : X → X) → ((x : X) → test (f x) ≡ other x) → (xs : List X) → filter test (map f xs) ≡ map f (filter other xs)
 filter-map test other f e [] = refl
