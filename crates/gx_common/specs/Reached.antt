@@ -6,10 +6,13 @@ use Rattle.gx_num.specs.declared.extent.Extent.{Extent}
 use Rattle.gx_num.specs.Space.{HalfSpace}
 use Rattle.gx_plane.specs.Plane.{side_of}
 
--- on some axis the one ends before the other begins, or where it begins
+-- on some axis the first coordinate is at most the second
+abbrev pub is_any_at_most : V3 → V3 → Bool
+is_any_at_most p q = int_le p.x q.x || (int_le p.y q.y || int_le p.z q.z)
+
+-- on some axis the one ends where the other begins, or before
 abbrev pub are_extents_apart : Extent → Extent → Bool
-are_extents_apart a b =
-    int_le a.high.x b.low.x || (int_le b.high.x a.low.x || (int_le a.high.y b.low.y || (int_le b.high.y a.low.y || (int_le a.high.z b.low.z || int_le b.high.z a.low.z))))
+are_extents_apart a b = is_any_at_most a.high b.low || is_any_at_most b.high a.low
 
 -- for each plane one of the points is strictly inside it
 abbrev pub are_reached_by : List HalfSpace → List V3 → Bool

@@ -1,6 +1,6 @@
 ghost use Rattle.std.specs.Prelude.{◌≡◌, ◌≤◌, ◌<◌, ◌^◌, ◌*◌, ◌<ℤ◌, ◌+ℤ◌, ◌*ℤ◌, pos, unsigned_abs, IsTrue};
 ghost use Rattle.std.specs.Ordering.{int_cmp};
-ghost use Rattle.gx_num.specs.Vector.{IsWithin};
+ghost use Rattle.gx_num.specs.Vector.{IsWithin, is_same};
 ghost use Rattle.gx_num.specs.Space.{normal_dot};
 ghost use Rattle.gx_num.specs.Vector4.{lowest4};
 ghost use Rattle.gx_plane.specs.Plane.{reach, offset_reach};
@@ -89,10 +89,10 @@ impl Candidate {
         if self.l != other.l {
             return false;
         }
-        if self.p != other.p {
+        if !is_same_vertex(self.p, other.p) {
             return false;
         }
-        self.q == other.q
+        is_same_vertex(self.q, other.q)
     }
 
     /// Strictly inside a face.
@@ -120,6 +120,12 @@ impl Candidate {
             weight(self.k, self.l),
         )
     }
+}
+
+fn is_same_vertex(p: V3, q: V3) -> bool
+    ensures { result ≡ is_same p q }
+{
+    p == q
 }
 
 // k p + l q

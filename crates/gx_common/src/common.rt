@@ -1,12 +1,12 @@
-ghost use Rattle.std.specs.Prelude.{◌≡◌, ◌++◌, ◌≤◌, ◌^◌, pos, int_lt, length, map, All, Option, IfOk};
-ghost use Rattle.std.specs.List.{list_all, list_any};
+ghost use Rattle.std.specs.Prelude.{◌≡◌, pos, int_lt, All, IfOk};
+ghost use Rattle.std.specs.List.{list_any};
 ghost use Rattle.std.specs.Option.{option_map, is_none, is_some};
 ghost use Rattle.gx_num.specs.Vector.{IsWithin};
 ghost use Rattle.gx_plane.specs.Plane.{reach, side_of};
-ghost use Rattle.gx_convex.specs.Faces.{faces_of};
 ghost use Rattle.gx_separate.specs.Between.{first_between};
 ghost use Rattle.gx_common.specs.Common.{candidate_points, taken_of, common_of};
-ghost use Rattle.gx_common.specs.Slots.{empty, after};
+ghost use Rattle.gx_common.specs.Reached.{is_any_at_most, are_extents_apart, are_reached_by};
+ghost use Rattle.gx_common.specs.Slots.{after};
 
 use crate::Points;
 use crate::candidate::Candidate;
@@ -59,16 +59,26 @@ fn taken_points(alloc: Global, a: &Hull, b: &Hull) -> Result<Option<Vec<Candidat
     take_all(alloc, a, b)
 }
 
-// The boxes have no point in common that is strictly within both.
+// On some axis the one ends where the other begins, or before.
 fn are_apart(a: Extent, b: Extent) -> bool
     ensures { result ≡ are_extents_apart a b }
 {
-    a.high.x <= b.low.x
-        || b.high.x <= a.low.x
-        || a.high.y <= b.low.y
-        || b.high.y <= a.low.y
-        || a.high.z <= b.low.z
-        || b.high.z <= a.low.z
+    if is_any_at_most(a.high, b.low) {
+        return true;
+    }
+    is_any_at_most(b.high, a.low)
+}
+
+fn is_any_at_most(p: V3, q: V3) -> bool
+    ensures { result ≡ is_any_at_most p q }
+{
+    if p.x <= q.x {
+        return true;
+    }
+    if p.y <= q.y {
+        return true;
+    }
+    p.z <= q.z
 }
 
 // Each of the faces has one of the points strictly inside it.
@@ -112,5 +122,3 @@ fn fill(alloc: Global, slots: &mut [Slot], a: &Hull, b: &Hull) -> Result<(), NoM
     let _filled = offer_crossings(slots, &vertices(alloc, others, faces)?);
     Ok(())
 }
-
-ghost use Rattle.gx_common.specs.Reached.{are_extents_apart, are_reached_by};

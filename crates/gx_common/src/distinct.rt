@@ -48,5 +48,11 @@ fn add(points: &mut Vec<Hp>, point: &Hp) -> Result<(), NoMemory>
 fn is_among(point: &Hp, points: &[Hp]) -> bool
     ensures { result ≡ list_any (is_same_point point.now) points.now }
 {
-    points.iter().any(|other| point == other)
+    points.iter().any(|other| is_same(point, other))
+}
+
+fn is_same(a: &Hp, b: &Hp) -> bool
+    ensures { result ≡ is_same_point a.now b.now }
+{
+    a == b
 }

@@ -34,7 +34,7 @@ impl Vertex {
         requires { IsWithin reach point }
         ensures { IfOk result (λ vertex. vertex ≡ sided faces.now point) }
     {
-        let sides = faces.iter().map(|face| face.side(point)).collect(alloc)?;
+        let sides = sides(alloc, point, faces)?;
         Ok(Vertex { point, sides })
     }
 
@@ -72,6 +72,18 @@ impl Vertex {
             .zip(&other.sides)
             .any(|(&side, &other_side)| side > 0 && other_side > 0)
     }
+}
+
+fn sides(alloc: Global, point: V3, faces: &[Plane]) -> Result<Vec<i128>, NoMemory>
+    requires { IsWithin reach point }
+    ensures value { IfOk result (λ sides. sides.items ≡ map (λ h. side_of h point) faces.now) }
+    ensures within { IfOk result (λ sides. All (λ z. unsigned_abs z ≤ 2 * offset_reach) sides.items) }
+{
+    let mut sides = Vec::with_capacity(alloc, faces.len())?;
+    for face in faces {
+        sides.push(face.side(point))?;
+    }
+    Ok(sides)
 }
 
 fn is_mixed_at(k: u128, side: i128, l: u128, other_side: i128) -> bool
