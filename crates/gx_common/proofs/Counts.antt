@@ -1,5 +1,5 @@
 -- How many faces hulls have at most, and common points.
-use Rattle.std.proofs.Common.{◌≡◌, ℕ, suc, ◌+◌, ◌*◌, ◌≤◌, ◌^◌, Bool, true, false, cond, Option, Some, None, List, [], ◌∷◌, ◌++◌, map, flat_map, filter, find, length, length-append, ap, arith}
+use Rattle.std.proofs.Common.{◌≡◌, ℕ, suc, ◌+◌, ◌*◌, ◌≤◌, ◌^◌, Bool, true, false, cond, Option, Some, None, List, [], ◌∷◌, ◌++◌, map, flat_map, filter, find, length, length-append, refl, ap, arith}
 use Rattle.std.proofs.lemmas.List.{length-map}
 use Rattle.std.specs.Option.{option_map, option_and_then}
 use Rattle.std.specs.List.{list_any}
@@ -15,12 +15,12 @@ use Rattle.gx_common.specs.Common.{is_strict, taken, taken_of, is_same_point}
 length-pairs_of : (ps : List V3) → length ps ≤ 32 → length (pairs_of ps) ≤ 32 * length ps
 length-pairs_of [] h = omega arith
 length-pairs_of (p ∷ ps) h =
-    omega (arith, length-append (map (λ q. (p, q)) ps) (pairs_of ps), length-map ps (λ (q : V3). (p, q)), length-pairs_of ps (omega (arith, h)))
+    omega (arith, length-append (map (λ q. (p, q)) ps) (pairs_of ps), length-map {B = V3 × V3} ps (λ (q : V3). (p, q)), length-pairs_of ps (omega (arith, h)))
 
 length-triples_of : (ps : List V3) → length ps ≤ 32 → length (triples_of ps) ≤ 1024 * length ps
 length-triples_of [] h = omega arith
 length-triples_of (p ∷ ps) h =
-    omega (arith, length-append (map (λ (t : V3 × V3). (p, t.0, t.1)) (pairs_of ps)) (triples_of ps), length-map (pairs_of ps) (λ (t : V3 × V3). (p, t.0, t.1)), length-pairs_of ps (omega (arith, h)), length-triples_of ps (omega (arith, h)))
+    omega (arith, length-append (map (λ (t : V3 × V3). (p, t.0, t.1)) (pairs_of ps)) (triples_of ps), length-map {B = V3 × V3 × V3} (pairs_of ps) (λ (t : V3 × V3). (p, t.0, t.1)), length-pairs_of ps (omega (arith, h)), length-triples_of ps (omega (arith, h)))
 
 length-planes : (ts : List (V3 × V3 × V3)) → length (flat_map (λ t. both_ways (plane_through t.0 t.1 t.2)) ts) ≤ 2 * length ts
 length-planes [] = omega arith

@@ -76,8 +76,5 @@ module _ {X : Type 0} (f : List X → List Vec4) (g : X → List X → List Vec4
   filled_first x xs all before now e is filled = sym (after-filled (f xs) now filled) ∙ offered_first x xs all before now e is
 
   -- nothing is offered from the end of the list
-  pub offered_all : f [] ≡ [] → (xs : List X) (now : List Slot) → xs ≡ [] → after (f xs) now ≡ now
-  offered_all none xs now e = ap (λ (ys : List X). after (f ys) now) e ∙ ap (λ (ys : List Vec4). after ys now) none ∙ after-nil now
-
   pub offered_past : f [] ≡ [] → (xs : List X) (i : ℕ) (now : List Slot) → length xs ≤ i → after (f (drop i xs)) now ≡ now
-  offered_past none xs i now le = offered_all none (drop i xs) now (drop-past xs i le)
+  offered_past none xs i now le = ap (λ (ys : List X). after (f ys) now) (drop-past xs i le) ∙ ap (λ (ys : List Vec4). after ys now) none ∙ after-nil now

@@ -40,7 +40,7 @@ module _ (a b : List V3) (solid_a : are_coplanar a ≡ false) (solid_b : are_cop
       go None e = e
       go (Some ps) e = absurd (never (law.meet.1 (law.given.0 (ps, e))))
 
-  pub taken_or_between : is_none (taken_of a b) ≡ is_some (first_between a b)
+  taken_or_between : is_none (taken_of a b) ≡ is_some (first_between a b)
   taken_or_between = go (taken_of a b) (first_between a b) refl refl
     where
       go : (t : Option (List Vec4)) (h : Option HalfSpace) → taken_of a b ≡ t → first_between a b ≡ h → is_none t ≡ is_some h
@@ -61,6 +61,18 @@ module _ (a b : List V3) (solid_a : are_coplanar a ≡ false) (solid_b : are_cop
                 where
                   none : None ≡ Some ps → ⊥
                   none z = cc
+
+  pub apart_is : (found : Option (List Vec4)) → found ≡ taken_of a b → is_none found ≡ is_some (first_between a b)
+  apart_is found e = ap (λ (t : Option (List Vec4)). is_none t) e ∙ taken_or_between
+
+  pub meet_is : (found : Option (List Vec4)) → found ≡ taken_of a b → is_some found ≡ is_none (first_between a b)
+  meet_is found e = go found (first_between a b) (apart_is found e)
+    where
+      go : (t : Option (List Vec4)) (h : Option HalfSpace) → is_none t ≡ is_some h → is_some t ≡ is_none h
+      go None None f = sym f
+      go None (Some h) f = refl
+      go (Some ps) None f = refl
+      go (Some ps) (Some h) f = sym f
 
 -- ---- extents
 own_solid : (a : List V3) → are_coplanar a ≡ false → AreTheSolid (faces_of a) a

@@ -105,3 +105,16 @@ none_beyond u v e = each (zip u.sides v.sides)
     each : (ts : List (ℤ × ℤ)) → filter_map (crossing_in u v) ts ≡ []
     each [] = refl
     each (t ∷ ts) = ap (λ (b : Bool). cons_option (cond b (Some (mixed (unsigned_abs t.1) u.point (unsigned_abs t.0) v.point)) None) (filter_map (crossing_in u v) ts)) (no t) ∙ each ts
+
+-- ---- the crossing at a plane, by what its sides were found to be
+pub crossing_at : (u v : Sided) (s t : ℤ) (opposite inside : Bool) → int_lt (s *ℤ t) (pos 0) ≡ opposite → is_mixed_in (unsigned_abs t) u.sides (unsigned_abs s) v.sides ≡ inside → cons_option (crossing_in u v (s, t)) [] ≡ cond (opposite && inside) (mixed (unsigned_abs t) u.point (unsigned_abs s) v.point ∷ []) []
+crossing_at u v s t opposite inside e f =
+    ap (λ (b : Bool). cons_option (cond (b && is_mixed_in (unsigned_abs t) u.sides (unsigned_abs s) v.sides) (Some x) None) []) e
+    ∙ ap (λ (b : Bool). cons_option (cond (opposite && b) (Some x) None) []) f ∙ go (opposite && inside)
+  where
+    x : Vec4
+    x = mixed (unsigned_abs t) u.point (unsigned_abs s) v.point
+
+    go : (b : Bool) → cons_option (cond b (Some x) None) [] ≡ cond b (x ∷ []) []
+    go true = refl
+    go false = refl

@@ -1,12 +1,14 @@
-ghost use Rattle.std.specs.Prelude.{◌≡◌, pos, int_lt, All, IfOk};
+ghost use Rattle.std.specs.Prelude.{◌≡◌, ◌++◌, pos, int_lt, map, All, IfOk};
 ghost use Rattle.std.specs.List.{list_any};
 ghost use Rattle.std.specs.Option.{option_map, is_none, is_some};
 ghost use Rattle.gx_num.specs.Vector.{IsWithin};
 ghost use Rattle.gx_plane.specs.Plane.{reach, side_of};
+ghost use Rattle.gx_convex.specs.Faces.{faces_of};
+ghost use Rattle.gx_hull.specs.Hull.{IsVertices};
 ghost use Rattle.gx_separate.specs.Between.{first_between};
 ghost use Rattle.gx_common.specs.Common.{candidate_points, taken_of, common_of};
 ghost use Rattle.gx_common.specs.Reached.{is_any_at_most, are_extents_apart, are_reached_by};
-ghost use Rattle.gx_common.specs.Slots.{after};
+ghost use Rattle.gx_common.specs.Slots.{empty, after};
 
 use crate::Points;
 use crate::candidate::Candidate;
@@ -44,12 +46,14 @@ pub fn insides_meet(alloc: Global, a: &Hull, b: &Hull) -> Result<bool, NoMemory>
 // The candidate points taken for the faces; None where a face has none. Most pairs without any are told by their extents, or
 // by a face with no vertex of the other strictly inside.
 fn taken_points(alloc: Global, a: &Hull, b: &Hull) -> Result<Option<Vec<Candidate>>, NoMemory>
-    ensures { IfOk result (λ found. option_map (λ points. points.items) found ≡ taken_of a.now b.now) }
+    ensures value { IfOk result (λ found. option_map (λ points. points.items) found ≡ taken_of a.now b.now) }
+    ensures vertices { IsVertices a.now }
+    ensures others { IsVertices b.now }
 {
+    let (vertices, others) = (a.vertices(), b.vertices());
     if are_apart(a.extent(), b.extent()) {
         return Ok(None);
     }
-    let (vertices, others) = (a.vertices(), b.vertices());
     if !are_reached(a.faces(), others) {
         return Ok(None);
     }
@@ -100,8 +104,20 @@ fn take_all(alloc: Global, a: &Hull, b: &Hull) -> Result<Option<Vec<Candidate>>,
     ensures { IfOk result (λ found. option_map (λ points. points.items) found ≡ taken_of a.now b.now) }
 {
     let mut slots = slots(alloc, a.faces(), b.faces())?;
-    fill(alloc, &mut slots, a, b)?;
-    points(alloc, &slots)
+    take_into(alloc, &mut slots, a, b)
+}
+
+fn take_into(
+    alloc: Global,
+    slots: &mut [Slot],
+    a: &Hull,
+    b: &Hull,
+) -> Result<Option<Vec<Candidate>>, NoMemory>
+    requires { slots.now ≡ map empty (faces_of a.now ++ faces_of b.now) }
+    ensures { IfOk result (λ found. option_map (λ points. points.items) found ≡ taken_of a.now b.now) }
+{
+    fill(alloc, slots, a, b)?;
+    points(alloc, slots)
 }
 
 // Offers the candidates in their order, until no face wants one.
