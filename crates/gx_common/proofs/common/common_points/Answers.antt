@@ -9,16 +9,16 @@ use Rattle.gx_common.proofs.common.common_points.Goals as goal
 
 pub returns-in_default-clause-apart : goal.returns-in_default-clause-apart
 returns-in_default-clause-apart c =
-    let e : None ≡ taken_of c.args.a.now c.args.b.now = rw c.in_default.is at c.in_ok-candidates.ensures in
-    apart_is c.args.a.now c.args.b.now c.taken_points.ensures.vertices.solid c.taken_points.ensures.others.solid None e
+    let e : None ≡ taken_of c.args.a.now c.args.b.now = rw c.in_default.is at c.in_ok-candidates.ensures.value in
+    apart_is c.args.a.now c.args.b.now c.in_ok-candidates.ensures.vertices.solid c.in_ok-candidates.ensures.others.solid None e
 
 pub returns-clause-apart : goal.returns-clause-apart
 returns-clause-apart c =
-    let e : Some c.in-Some.candidates.items ≡ taken_of c.args.a.now c.args.b.now = rw c.in-Some.is at c.in_ok-candidates.ensures in
-    apart_is c.args.a.now c.args.b.now c.taken_points.ensures.vertices.solid c.taken_points.ensures.others.solid (Some c.in-Some.candidates.items) e
+    let e : Some c.in-Some.candidates.items ≡ taken_of c.args.a.now c.args.b.now = rw c.in-Some.is at c.in_ok-candidates.ensures.value in
+    apart_is c.args.a.now c.args.b.now c.in_ok-candidates.ensures.vertices.solid c.in_ok-candidates.ensures.others.solid (Some c.in-Some.candidates.items) e
 
 pub seal-requires : goal.seal-requires
 seal-requires c =
-    let e : Some c.in-Some.candidates.items ≡ taken_of c.args.a.now c.args.b.now = rw c.in-Some.is at c.in_ok-candidates.ensures in
-    let few = length-common c.args.a.now c.args.b.now c.in-Some.candidates.items c.taken_points.ensures.vertices.few c.taken_points.ensures.others.few (sym e) in
+    let e : Some c.in-Some.candidates.items ≡ taken_of c.args.a.now c.args.b.now = rw c.in-Some.is at c.in_ok-candidates.ensures.value in
+    let few = length-common c.args.a.now c.args.b.now c.in-Some.candidates.items c.in_ok-candidates.ensures.vertices.few c.in_ok-candidates.ensures.others.few (sym e) in
     omega (arith, few, ap length (c.in_ok-distinct.ensures ∙ ap (λ (ps : List Vec4). distinct_by is_same_point [] (map lowest4 ps)) c.deref.ensures.value))
