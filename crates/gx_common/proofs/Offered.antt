@@ -1,5 +1,5 @@
 -- Points offered to faces, one after another.
-use Rattle.std.proofs.Common.{get_or, ◌≡◌, ℕ, ◌+◌, ◌<◌, ◌≤◌, zero, suc, Bool, true, false, ◌&&◌, List, [], ◌∷◌, ◌++◌, map, length, drop, find, Option, Some, None, refl, sym, ap, ◌∙◌, add-one, true≢false, arith}
+use Rattle.std.proofs.Common.{get_or, ◌≡◌, ℕ, ◌+◌, ◌<◌, ◌≤◌, zero, suc, true, List, [], ◌∷◌, ◌++◌, map, length, drop, find, Option, Some, None, refl, sym, ap, ◌∙◌, add-one, true≢false, arith}
 use Rattle.std.specs.Option.{option_or, option_map, option_and_then, is_some}
 use Rattle.std.proofs.Math.Seq.{drop-cons}
 use Rattle.std.proofs.lemmas.Bool.{and_parts}

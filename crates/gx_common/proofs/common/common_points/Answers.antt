@@ -1,5 +1,4 @@
-use Rattle.std.proofs.Common.{◌≡◌, Option, Some, None, List, [], map, length, sym, ap, ◌∙◌, arith}
-use Rattle.std.specs.Option.{option_map}
+use Rattle.std.proofs.Common.{◌≡◌, Some, None, List, [], map, length, sym, ap, ◌∙◌, arith}
 use Rattle.gx_num.specs.Vector4.{Vec4, lowest4}
 use Rattle.gx_convex.specs.Points.{distinct_by}
 use Rattle.gx_common.specs.Common.{is_same_point, taken_of}

@@ -1,8 +1,7 @@
 use Rattle.std.proofs.Common.{◌≡◌, true, false, pos, ◌*ℤ◌, int_lt, unsigned_abs, List, [], ◌∷◌, refl, sym, ap, ◌∙◌}
-use Rattle.std.specs.List.{cons_option}
 use Rattle.gx_num.specs.Vector4.{Vec4}
 use Rattle.gx_common.specs.Common.{mixed}
-use Rattle.gx_common.specs.Sides.{is_mixed_in, crossing_in}
+use Rattle.gx_common.specs.Sides.{is_mixed_in}
 use Rattle.gx_common.specs.Slots.{after}
 use Rattle.gx_common.proofs.Levels.{by_value}
 use Rattle.gx_common.proofs.Sides.{crossing_at}

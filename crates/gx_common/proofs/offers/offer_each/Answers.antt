@@ -1,4 +1,4 @@
-use Rattle.std.proofs.Common.{◌≡◌, ◌⊎◌, inl, inr, ◌≤◌, ◌*◌, ℤ, unsigned_abs, List, [], ◌∷◌, ◌++◌, filter_map, length, Option, Some, None, All, refl, sym, ap, ◌∙◌, subst, arith}
+use Rattle.std.proofs.Common.{◌≡◌, ◌⊎◌, inl, inr, ◌≤◌, ◌*◌, ℤ, unsigned_abs, List, [], ◌∷◌, ◌++◌, filter_map, length, Option, Some, None, All, refl, sym, ◌∙◌, subst, arith}
 use Rattle.std.specs.Iterator.Adapters.{zip_first, zip_second}
 use Rattle.std.specs.List.{zip, cons_option}
 use Rattle.std.specs.Slice.Iter.{iter_rest}
@@ -7,7 +7,6 @@ use Rattle.gx_num.specs.Vector4.{Vec4}
 use Rattle.gx_plane.specs.Plane.{offset_reach}
 use Rattle.gx_common.specs.Sides.{Sided, crossing_in}
 use Rattle.gx_common.specs.Slots.{after}
-use Rattle.gx_common.specs.declared.slots.Slot.{Slot}
 use Rattle.gx_common.proofs.Levels.{by_value}
 use Rattle.gx_common.proofs.Offered.{offered_first, filled_first, offered_past}
 use Rattle.gx_common.proofs.offers.offer_each.Goals as goal
