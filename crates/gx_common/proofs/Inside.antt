@@ -57,7 +57,7 @@ mean ms (l ∷ ls) c h = add (All-head (IsStrictAt ms) l ls h) (mean ms ls (All-
     }
 
 -- ---- a point inside both
-some_face : (a : List V3) → are_coplanar a ≡ false → (h : HalfSpace) × Contains (faces_of a) h
+pub some_face : (a : List V3) → are_coplanar a ≡ false → (h : HalfSpace) × Contains (faces_of a) h
 some_face a solid = go (faces_of a) refl
   where
     below : Vec4
@@ -161,8 +161,11 @@ plane_between a b h e = record {
     tests : (supports h a ≡ true) × (supports (flipped h) b ≡ true)
     tests = and_parts (supports h a) (supports (flipped h) b) found.1
 
+pub normal_dot-flipped : (h : HalfSpace) (p : Vec4) → normal_dot (flipped h) p -ℤ (flipped h).e *ℤ p.w ≡ h.e *ℤ p.w -ℤ normal_dot h p
+normal_dot-flipped = identity (half_space ∷ vector4 ∷ []) (λ h p. term.normal_dot (record { n = record { x = none ⊖ h.n.x; y = none ⊖ h.n.y; z = none ⊖ h.n.z }; e = none ⊖ h.e }) p ⊖ (none ⊖ h.e) ⊗ p.w ≣ h.e ⊗ p.w ⊖ term.normal_dot h p) tt
+
 pub never : (a b : List V3) → are_coplanar a ≡ false → are_coplanar b ≡ false → (h : HalfSpace) → first_between a b ≡ Some h → IsInsideBoth (faces_of a) (faces_of b) → ⊥
-never a b solid_a solid_b h e i = omega (arith, ints, first, second, opposite h i.point)
+never a b solid_a solid_b h e i = omega (arith, ints, first, second, normal_dot-flipped h i.point)
   where
     is : IsPlaneBetween a b h
     is = plane_between a b h e
@@ -175,6 +178,3 @@ never a b solid_a solid_b h e i = omega (arith, ints, first, second, opposite h 
 
     second : normal_dot (flipped h) i.point <ℤ ((flipped h).e *ℤ i.point.w)
     second = strict (faces_of b) (flipped h) flipped_plane (λ q w k. implied b solid_b (flipped h) is.bounds_other q k) i.point i.proper i.inside_other
-
-    opposite : (h : HalfSpace) (p : Vec4) → normal_dot (flipped h) p -ℤ (flipped h).e *ℤ p.w ≡ h.e *ℤ p.w -ℤ normal_dot h p
-    opposite = identity (half_space ∷ vector4 ∷ []) (λ h p. term.normal_dot (record { n = record { x = none ⊖ h.n.x; y = none ⊖ h.n.y; z = none ⊖ h.n.z }; e = none ⊖ h.e }) p ⊖ (none ⊖ h.e) ⊗ p.w ≣ h.e ⊗ p.w ⊖ term.normal_dot h p) tt

@@ -1,6 +1,5 @@
 -- Points of two boxes, worked out by hand.
 use Rattle.std.proofs.Common.{◌≡◌, ℤ, pos, [], ◌∷◌, length, Some, None, refl}
-use Rattle.gx_num.specs.declared.vector.V3.{V3}
 use Rattle.gx_num.specs.Number.{common_divisor}
 use Rattle.gx_num.specs.Space.{HalfSpace}
 use Rattle.gx_num.specs.Vector4.{Vec4}

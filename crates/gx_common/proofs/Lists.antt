@@ -1,9 +1,12 @@
 -- Members of lists that were searched, filtered or joined.
-use Rattle.std.proofs.Common.{◌≡◌, ◌⊎◌, inl, inr, Bool, true, false, cond, Option, Some, None, List, [], ◌∷◌, filter, filter_map, flat_map, find, All, Contains, refl, sym, ap, ◌∙◌, subst}
-use Rattle.std.specs.List.{cons_option}
+use Rattle.std.proofs.Common.{◌≡◌, ◌⊎◌, inl, inr, Bool, true, false, cond, Option, Some, None, List, [], ◌∷◌, ◌++◌, reverse, filter, filter_map, flat_map, find, All, Contains, refl, sym, ap, ◌∙◌, subst}
+use Rattle.std.specs.List.{cons_option, list_any}
+use Rattle.std.proofs.lemmas.List.{append_assoc, reverse-append}
+use Rattle.std.proofs.lemmas.List.Sorted.{list_any-IsPermutation, IsPermutation-reverse}
 use Rattle.std.proofs.lemmas.List.Elements.{All-nil, All-cons, All-head, All-tail, All-append, All-contains, All-contains_itself}
 use Rattle.std.proofs.Common.{arith}
 use Rattle.gx_algebra.proofs.Lists.{Contains-head, Contains-tail, Contains-cases}
+use Rattle.gx_convex.specs.Points.{distinct_by}
 use Rattle.gx_convex.proofs.FaceFacts.{All-from_filter}
 
 -- all members have the one, or the other holds
@@ -56,3 +59,16 @@ pub All-flat_map : {X Y : Type 0} (P : Y → Type 0) (f : X → List Y) (xs : Li
 All-flat_map P f [] h = All-nil P
 All-flat_map P f (x ∷ xs) h =
     All-append P (f x) (flat_map f xs) (All-head (λ x. All P (f x)) x xs h) (All-flat_map P f xs (All-tail (λ x. All P (f x)) x xs h))
+
+-- ---- loops that keep each element once, at its first place
+module _ {X : Type 0} (same : X → X → Bool) where
+  at_reverse : (kept : List X) (x : X) (xs : List X) (b : Bool) → list_any (same x) kept ≡ b → distinct_by same (reverse kept) (x ∷ xs) ≡ cond b (distinct_by same (reverse kept) xs) (x ∷ distinct_by same (x ∷ reverse kept) xs)
+  at_reverse kept x xs b e =
+      ap (λ b. cond b (distinct_by same (reverse kept) xs) (x ∷ distinct_by same (x ∷ reverse kept) xs)) (sym (list_any-IsPermutation (same x) kept (reverse kept) (IsPermutation-reverse kept)) ∙ e)
+
+  pub passed_over : (kept : List X) (x : X) (xs : List X) → list_any (same x) kept ≡ true → kept ++ distinct_by same (reverse kept) xs ≡ kept ++ distinct_by same (reverse kept) (x ∷ xs)
+  passed_over kept x xs e = ap (λ ys. kept ++ ys) (sym (at_reverse kept x xs true e))
+
+  pub kept_now : (kept now : List X) (x : X) (xs : List X) → now ≡ kept ++ x ∷ [] → list_any (same x) kept ≡ false → now ++ distinct_by same (reverse now) xs ≡ kept ++ distinct_by same (reverse kept) (x ∷ xs)
+  kept_now kept now x xs is e =
+      ap (λ ys. ys ++ distinct_by same (reverse ys) xs) is ∙ ap (λ seen. (kept ++ x ∷ []) ++ distinct_by same seen xs) (reverse-append kept (x ∷ [])) ∙ append_assoc kept (x ∷ []) (distinct_by same (x ∷ reverse kept) xs) ∙ ap (λ ys. kept ++ ys) (sym (at_reverse kept x xs false e))

@@ -1,11 +1,13 @@
 -- The points that two lists of vertices have in common, among their vertices and the crossings of their segments with their faces.
-use Rattle.std.specs.Prelude.{ℕ, pos, ◌+ℤ◌, ◌*ℤ◌, int_lt, unsigned_abs, Bool, if◌then◌else◌, List, [], ◌∷◌, ◌++◌, map, find, filter, filter_map, flat_map, Option, Some, None}
+use Rattle.std.specs.Prelude.{ℕ, pos, ◌+ℤ◌, ◌*ℤ◌, int_lt, unsigned_abs, Bool, ◌&&◌, if◌then◌else◌, List, [], ◌∷◌, ◌++◌, map, find, filter, filter_map, flat_map, Option, Some, None}
 use Rattle.std.specs.Option.{option_map, option_and_then}
+use Rattle.std.specs.Ordering.{int_eq}
 use Rattle.gx_num.specs.declared.vector.V3.{V3}
 use Rattle.gx_num.specs.Space.{HalfSpace, normal_dot, is_in}
-use Rattle.gx_num.specs.Vector4.{Vec4}
+use Rattle.gx_num.specs.Vector4.{Vec4, lowest4}
 use Rattle.gx_plane.specs.Plane.{side_of}
 use Rattle.gx_plane.specs.Between.{pairs_of}
+use Rattle.gx_convex.specs.Points.{distinct_by}
 use Rattle.gx_convex.specs.Faces.{faces_of}
 
 -- p as a point with w = 1
@@ -49,3 +51,11 @@ taken points (h ∷ hs) = option_and_then (λ p. option_map (λ ps. p ∷ ps) (t
 -- the candidate points taken for the faces of both
 abbrev pub taken_of : List V3 → List V3 → Option (List Vec4)
 taken_of a b = taken (candidate_points a b) (faces_of a ++ faces_of b)
+
+-- the same four numbers
+abbrev pub is_same_point : Vec4 → Vec4 → Bool
+is_same_point a b = int_eq a.x b.x && int_eq a.y b.y && int_eq a.z b.z && int_eq a.w b.w
+
+-- the points taken for the faces of both, in lowest terms, each once at its first place; None where a face has none
+abbrev pub common_of : List V3 → List V3 → Option (List Vec4)
+common_of a b = option_map (λ points. distinct_by is_same_point [] (map lowest4 points)) (taken_of a b)
