@@ -1,4 +1,4 @@
-pub mod Declared
+pub mod Decl
 pub mod Lines
 pub mod Placements
 pub mod Range

@@ -32,22 +32,22 @@ pub record IsCount (count : ℕ) : Type 0 where
 
 -- copies in a row, each at most M away
 pub record IsRow (count : ℕ) (step offset : ℤ) : Type 0 where
-  pub count : IsCount count
-  pub step : IsNear step
-  pub offset : IsNear offset
+  pub counted : IsCount count
+  pub near_step : IsNear step
+  pub near_offset : IsNear offset
   pub copies : (i : ℕ) → i < count → IsNear (place offset step i)
 
 pub record IsReplica (axis count : ℕ) (width : ℤ) : Type 0 where
-  pub axis : axis < 3
-  pub count : IsCount count
-  pub width : IsNear width
+  pub along : axis < 3
+  pub counted : IsCount count
+  pub near_width : IsNear width
 
 pub record IsLinear (axis count : ℕ) (step offset : ℤ) : Type 0 where
-  pub axis : axis < 3
+  pub along : axis < 3
   pub row : IsRow count step offset
 
 pub record IsSquare (plane first_count second_count : ℕ) (first_step second_step first_offset second_offset : ℤ) : Type 0 where
-  pub plane : plane < 3
+  pub along : plane < 3
   pub first : IsRow first_count first_step first_offset
   pub second : IsRow second_count second_step second_offset
   pub few : first_count * second_count ≤ 4096
@@ -59,10 +59,10 @@ IsForm (form.Linear axis count step offset) = IsLinear axis count step offset
 IsForm (form.Square plane n1 n2 s1 s2 o1 o2) = IsSquare plane n1 n2 s1 s2 o1 o2
 
 pub record IsPlacement (volume mother : List ℕ) (rotation : Option (List ℕ)) (form : Form) : Type 0 where
-  pub volume : IsName volume
-  pub mother : IsName mother
-  pub rotation : IsNameIfAny rotation
-  pub form : IsForm form
+  pub volume_named : IsName volume
+  pub mother_named : IsName mother
+  pub rotation_named : IsNameIfAny rotation
+  pub formed : IsForm form
 
 pub record IsTraceable (ray : Ray) : Type 0 where
   pub origin : IsWithin (unsigned_abs M) ray.o

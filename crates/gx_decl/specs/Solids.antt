@@ -1,9 +1,10 @@
 -- The lines of solids and volumes: `:SOLID` and `:VOLU`.
 -- After the documentation of Geant4's ASCII text geometry format.
-use Rattle.std.specs.Prelude.{ℕ, pos, ◌||◌, ◌==◌, List, [], ◌∷◌, codes, Option, None, Some, if◌then◌else◌}
+use Rattle.std.specs.Prelude.{ℕ, ◌^◌, pos, unsigned_abs, int_lt, nat_le, Bool, ◌&&◌, ◌||◌, ◌==◌, List, [], ◌∷◌, codes, Option, None, Some, if◌then◌else◌}
 use Rattle.gx_table.specs.declared.fault.FaultName.{FaultName}
-use Rattle.gx_table.specs.declared.fault.FaultName.TheVariants.{UnitKind, SolidKind as UnknownKind}
+use Rattle.gx_table.specs.declared.fault.FaultName.TheVariants.{UnitKind, TooWide, SolidKind as UnknownKind}
 use Rattle.gx_table.specs.Table.{TableEntry}
+use Rattle.gx_fraction.specs.Fraction.{Fraction}
 use Rattle.gx_expr.specs.Quantity.{Quantity}
 use Rattle.gx_form.specs.Form.{◌>>=◌, ◌>>◌, pure}
 use Rattle.gx_shapes.specs.declared.kind.SolidKind.{SolidKind}
@@ -19,9 +20,19 @@ use Rattle.gx_decl.specs.Words.{Words, Reader, refuse, refuse_at, left, end, nam
 
 -- ---- the values of a solid
 
--- a scale has no mark
+abbrev pub as_scale : Fraction → Scale
+as_scale f = record { num = f.num; den = pos f.den }
+
+-- the second number above 0, and neither above 2^62 in magnitude, as the numbers of all values are
+abbrev pub is_scale : Scale → Bool
+is_scale s = nat_le (unsigned_abs s.num) (2 ^ 62) && int_lt (pos 0) s.den && nat_le (unsigned_abs s.den) (2 ^ 62)
+
+-- a scale is a value without a mark
 abbrev pub scale_of : Quantity → Reader Scale
-scale_of value = if value.length || value.angle then refuse UnitKind else pure (record { num = value.number.num; den = pos value.number.den })
+scale_of value =
+    if value.length || value.angle then refuse UnitKind
+    else if is_scale (as_scale value.number) then pure (as_scale value.number)
+    else refuse TooWide
 
 abbrev pub scale : Reader Scale
 scale = expression >>= scale_of

@@ -1,7 +1,7 @@
 ghost use Rattle.std.specs.Prelude.{◌≡◌, IfOk};
 ghost use Rattle.gx_form.specs.Form.{Reads};
-ghost use Rattle.gx_decl.specs.Declared as spec;
-ghost use Rattle.gx_decl.specs.Declared.{Answers};
+ghost use Rattle.gx_decl.specs.Decl as spec;
+ghost use Rattle.gx_decl.specs.Decl.{Answers};
 ghost use Rattle.gx_decl.specs.Range.{IsInRange};
 
 use crate::declaration::Declaration;

@@ -37,7 +37,13 @@ fn param_name(words: &mut Words<'_>) -> Result<Name, Refusal>
 fn is_param_name(word: &[u8]) -> bool
     ensures { result ≡ is_param_name_of word.now }
 {
-    !word.is_empty() && word.len() <= 255 && word.iter().all(|byte| is_param_byte(*byte))
+    !word.is_empty() && word.len() <= 255 && are_param_bytes(word)
+}
+
+fn are_param_bytes(word: &[u8]) -> bool
+    ensures { result ≡ list_all is_name_byte word.now }
+{
+    word.iter().all(|byte| is_param_byte(*byte))
 }
 
 fn is_param_byte(byte: u8) -> bool

@@ -1,7 +1,6 @@
 ghost use Rattle.std.specs.Prelude.{◌≡◌};
-ghost use Rattle.gx_form.specs.Form.{Exactly, ◌>>=◌, pure};
-ghost use Rattle.gx_decl.specs.Declared as spec;
-ghost use Rattle.gx_decl.specs.Words.{row_of};
+ghost use Rattle.gx_form.specs.Form.{Exactly};
+ghost use Rattle.gx_decl.specs.Decl as spec;
 
 use crate::words::Words;
 use gx_form::Fault;
