@@ -51,9 +51,9 @@ module _ {A B : Type 0} (q : Form Numbers A) (g : A → Form Numbers B) (a : A) 
   joined first second = record {
     values = first.values ++ second.values;
     read = λ n rest.
-    let one = first.read n (second.values ++ rest) in
-    let two = second.read one.0 rest in
-    (two.0, ap (λ vs. and_then (q (at n vs)) g) (append_assoc first.values second.values rest) ∙ ap (λ o. and_then o g) one.1 ∙ two.1);
+        let one = first.read n (second.values ++ rest) in
+        let two = second.read one.0 rest in
+        (two.0, ap (λ vs. and_then (q (at n vs)) g) (append_assoc first.values second.values rest) ∙ ap (λ o. and_then o g) one.1 ∙ two.1);
   }
 
 module _ {S A B : Type 0} (p : Form S A) (q : Form Numbers A) (f : A → Form S B) (g : A → Form Numbers B) (first : Replays p q) (second : (a : A) → Replays (f a) (g a)) where

@@ -9,7 +9,9 @@ use Rattle.gx_param.specs.Param.{place as place_of}
 use Rattle.gx_form.specs.Form.{◌>>=◌, ◌>>◌, pure}
 use Rattle.gx_decl.specs.declared.declaration.Declaration.{Declaration}
 use Rattle.gx_decl.specs.declared.declaration.Declaration.TheVariants.{Place}
+use Rattle.gx_decl.specs.declared.declaration.Form.{Form}
 use Rattle.gx_decl.specs.declared.declaration.Form.TheVariants.{Single, Replica, Linear, Square}
+use Rattle.gx_decl.specs.declared.placements.Row.{Row}
 use Rattle.gx_decl.specs.Words.{Reader, refuse, refuse_at, left, end, name, steps, whole, row_of, row}
 use Rattle.gx_decl.specs.Lines.{vector}
 
@@ -85,34 +87,48 @@ does_reach count step offset =
     nat_le (unsigned_abs (place_of offset step 0)) (unsigned_abs M) && nat_le (unsigned_abs (place_of offset step (count - 1))) (unsigned_abs M)
 
 -- a row that doesn't reach is a fault at the word of its step
-abbrev pub reaches_at : ℕ → ℕ → ℤ → ℤ → Reader (Unit {0})
-reaches_at i count step offset = if does_reach count step offset then pure tt else refuse_at i TooFar
+abbrev pub reaches_at : ℕ → Row → Reader (Unit {0})
+reaches_at i r = if does_reach r.count r.step r.offset then pure tt else refuse_at i TooFar
 
 -- N STEP OFFSET
-abbrev pub linear : List ℕ → List ℕ → List ℕ → ℕ → Reader Declaration
-linear volume mother rotation axis = do
+abbrev pub one_row : Reader Row
+one_row = do
   count ← copies
   step ← steps
   offset ← steps
+  pure (record { count = count; step = step; offset = offset })
+
+abbrev pub linear : ℕ → Reader Form
+linear axis = do
+  r ← one_row
   end
-  reaches_at 8 count step offset
-  pure (Place volume mother (Some rotation) (Linear axis count step offset))
+  reaches_at 8 r
+  pure (Linear axis r.count r.step r.offset)
 
 -- N1 N2 STEP1 STEP2 OFFSET1 OFFSET2
-abbrev pub square : List ℕ → List ℕ → List ℕ → ℕ → Reader Declaration
-square volume mother rotation plane = do
+abbrev pub two_rows : Reader (Row × Row)
+two_rows = do
   first_count ← copies
   second_count ← rows_of first_count
   first_step ← steps
   second_step ← steps
   first_offset ← steps
   second_offset ← steps
-  end
-  reaches_at 9 first_count first_step first_offset
-  reaches_at 10 second_count second_step second_offset
-  pure (Place volume mother (Some rotation) (Square plane first_count second_count first_step second_step first_offset second_offset))
+  pure (record { count = first_count; step = first_step; offset = first_offset }, record { count = second_count; step = second_step; offset = second_offset })
 
--- `:PLACE_PARAM` VOL COPY MOTHER, a kind of row, ROT and what the kind wants; the copy number has no effect
+abbrev pub square : ℕ → Reader Form
+square plane = do
+  rs ← two_rows
+  end
+  reaches_at 9 rs.0
+  reaches_at 10 rs.1
+  pure (Square plane rs.0.count rs.1.count rs.0.step rs.1.step rs.0.offset rs.1.offset)
+
+-- by the number of a kind of rows
+abbrev pub rows : ℕ → Reader Form
+rows kind = if nat_lt kind 3 then linear kind else square (kind - 3)
+
+-- `:PLACE_PARAM` VOL COPY MOTHER, a kind of rows, ROT and what the kind wants; the copy number has no effect
 abbrev pub place_param : Reader Declaration
 place_param = do
   volume ← name
@@ -120,4 +136,5 @@ place_param = do
   mother ← name
   kind ← row_kind
   rotation ← name
-  if nat_lt kind 3 then linear volume mother rotation kind else square volume mother rotation (kind - 3)
+  form ← rows kind
+  pure (Place volume mother (Some rotation) form)

@@ -11,6 +11,7 @@ use Rattle.gx_decl.specs.declared.declaration.Declaration.{Declaration}
 use Rattle.gx_decl.specs.declared.declaration.Declaration.TheVariants as declaration
 use Rattle.gx_decl.specs.declared.declaration.Form.{Form}
 use Rattle.gx_decl.specs.declared.declaration.Form.TheVariants as form
+use Rattle.gx_decl.specs.declared.placements.Row.{Row}
 use Rattle.gx_decl.specs.Words.{is_param_name}
 use Rattle.gx_decl.specs.Lines.{is_zero}
 
@@ -29,6 +30,12 @@ IsNear n = unsigned_abs n ≤ unsigned_abs M
 pub record IsCount (count : ℕ) : Type 0 where
   pub some : 1 ≤ count
   pub few : count ≤ 4096
+
+-- a row as it is given
+pub record IsGiven (row : Row) : Type 0 where
+  pub counted : IsCount row.count
+  pub near_step : IsNear row.step
+  pub near_offset : IsNear row.offset
 
 -- copies in a row, each at most M away
 pub record IsRow (count : ℕ) (step offset : ℤ) : Type 0 where

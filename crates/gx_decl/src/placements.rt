@@ -1,7 +1,7 @@
 ghost use Rattle.std.specs.Prelude.{◌≡◌, ◌≤◌, ◌<◌, ◌*◌, IfOk, IsTrue};
 ghost use Rattle.gx_form.specs.Form.{Exactly, Reads};
 ghost use Rattle.gx_decl.specs.Placements as spec;
-ghost use Rattle.gx_decl.specs.Range.{IsInRange, IsName, IsNear, IsCount, IsRow};
+ghost use Rattle.gx_decl.specs.Range.{IsInRange, IsForm, IsNear, IsCount, IsGiven, IsRow};
 
 use crate::declaration::{Declaration, Form};
 use crate::ray::vector;
@@ -9,7 +9,6 @@ use crate::words::Words;
 use gx_form::{Fault, Refusal};
 use gx_param::reaches;
 use gx_table::{Entry, FaultName, entry};
-use gx_text::Name;
 
 const AXES: [Entry; 3] = [entry!(b"X", 0), entry!(b"Y", 1), entry!(b"Z", 2)];
 
@@ -117,11 +116,13 @@ pub fn place_param(words: &mut Words<'_>) -> Result<Declaration, Refusal>
     let mother = words.name()?;
     let kind = row_kind(words)?;
     let rotation = words.name()?;
-    if kind < 3 {
-        linear(words, volume, mother, rotation, kind)
-    } else {
-        square(words, volume, mother, rotation, kind - 3)
-    }
+    let form = rows(words, kind)?;
+    Ok(Declaration::Place {
+        volume,
+        mother,
+        rotation: Some(rotation),
+        form,
+    })
 }
 
 fn row_kind(words: &mut Words<'_>) -> Result<u8, Fault>
@@ -131,77 +132,96 @@ fn row_kind(words: &mut Words<'_>) -> Result<u8, Fault>
     words.row(&ROW_KINDS, FaultName::Axis)
 }
 
-// N STEP OFFSET.
-fn linear(
-    words: &mut Words<'_>,
-    volume: Name,
-    mother: Name,
-    rotation: Name,
-    axis: u8,
-) -> Result<Declaration, Refusal>
-    requires volume { IsName volume }
-    requires mother { IsName mother }
-    requires rotation { IsName rotation }
-    requires axis { axis < 3 }
-    ensures reads { Reads (spec.linear volume mother rotation axis words.old) result words.new }
-    ensures range { IfOk result IsInRange }
+fn rows(words: &mut Words<'_>, kind: u8) -> Result<Form, Fault>
+    requires { kind < 6 }
+    ensures reads { Exactly (spec.rows kind words.old) result words.new }
+    ensures form { IfOk result IsForm }
 {
-    let count = copies(words)?;
-    let step = words.steps()?;
-    let offset = words.steps()?;
+    if kind < 3 {
+        linear(words, kind)
+    } else {
+        square(words, kind - 3)
+    }
+}
+
+// How many copies, and where.
+#[derive(Clone, Copy)]
+struct Row {
+    count: u32,
+    step: i64,
+    offset: i64,
+}
+
+// N STEP OFFSET.
+fn linear(words: &mut Words<'_>, axis: u8) -> Result<Form, Fault>
+    requires { axis < 3 }
+    ensures reads { Exactly (spec.linear axis words.old) result words.new }
+    ensures form { IfOk result IsForm }
+{
+    let row = one_row(words)?;
     words.end()?;
-    reaches_at(words, 8, count, step, offset)?;
-    Ok(Declaration::Place {
-        volume,
-        mother,
-        rotation: Some(rotation),
-        form: Form::Linear {
-            axis,
-            count,
-            step,
-            offset,
-        },
+    reaches_at(words, 8, row)?;
+    Ok(Form::Linear {
+        axis,
+        count: row.count,
+        step: row.step,
+        offset: row.offset,
     })
 }
 
 // N1 N2 STEP1 STEP2 OFFSET1 OFFSET2.
-fn square(
-    words: &mut Words<'_>,
-    volume: Name,
-    mother: Name,
-    rotation: Name,
-    plane: u8,
-) -> Result<Declaration, Refusal>
-    requires volume { IsName volume }
-    requires mother { IsName mother }
-    requires rotation { IsName rotation }
-    requires plane { plane < 3 }
-    ensures reads { Reads (spec.square volume mother rotation plane words.old) result words.new }
-    ensures range { IfOk result IsInRange }
+fn square(words: &mut Words<'_>, plane: u8) -> Result<Form, Fault>
+    requires { plane < 3 }
+    ensures reads { Exactly (spec.square plane words.old) result words.new }
+    ensures form { IfOk result IsForm }
+{
+    let (first, second) = two_rows(words)?;
+    words.end()?;
+    reaches_at(words, 9, first)?;
+    reaches_at(words, 10, second)?;
+    Ok(Form::Square {
+        plane,
+        first_count: first.count,
+        second_count: second.count,
+        first_step: first.step,
+        second_step: second.step,
+        first_offset: first.offset,
+        second_offset: second.offset,
+    })
+}
+
+fn one_row(words: &mut Words<'_>) -> Result<Row, Fault>
+    ensures reads { Exactly (spec.one_row words.old) result words.new }
+    ensures given { IfOk result IsGiven }
+{
+    Ok(Row {
+        count: copies(words)?,
+        step: words.steps()?,
+        offset: words.steps()?,
+    })
+}
+
+fn two_rows(words: &mut Words<'_>) -> Result<(Row, Row), Fault>
+    ensures reads { Exactly (spec.two_rows words.old) result words.new }
+    ensures first { IfOk result (λ rows. IsGiven rows.0) }
+    ensures second { IfOk result (λ rows. IsGiven rows.1) }
+    ensures few { IfOk result (λ rows. rows.0.count * rows.1.count ≤ 4096) }
 {
     let first_count = copies(words)?;
     let second_count = rows_of(words, first_count)?;
     let first_step = words.steps()?;
     let second_step = words.steps()?;
-    let first_offset = words.steps()?;
-    let second_offset = words.steps()?;
-    words.end()?;
-    reaches_at(words, 9, first_count, first_step, first_offset)?;
-    reaches_at(words, 10, second_count, second_step, second_offset)?;
-    Ok(Declaration::Place {
-        volume,
-        mother,
-        rotation: Some(rotation),
-        form: Form::Square {
-            plane,
-            first_count,
-            second_count,
-            first_step,
-            second_step,
-            first_offset,
-            second_offset,
-        },
-    })
+    let first = Row {
+        count: first_count,
+        step: first_step,
+        offset: words.steps()?,
+    };
+    let second = Row {
+        count: second_count,
+        step: second_step,
+        offset: words.steps()?,
+    };
+    Ok((first, second))
 }
 
 // How many rows of so many copies.
@@ -219,20 +239,12 @@ fn rows_of(words: &mut Words<'_>, first_count: u32) -> Result<u32, Fault>
 }
 
 // A row that doesn't reach is a fault at the word of its step.
-fn reaches_at(
-    words: &mut Words<'_>,
-    place: u32,
-    count: u32,
-    step: i64,
-    offset: i64,
-) -> Result<(), Fault>
-    requires count { IsCount count }
-    requires step { IsNear step }
-    requires offset { IsNear offset }
-    ensures reads { Exactly (spec.reaches_at place count step offset words.old) result words.new }
-    ensures row { IfOk result (λ _. IsRow count step offset) }
+fn reaches_at(words: &mut Words<'_>, place: u32, row: Row) -> Result<(), Fault>
+    requires { IsGiven row }
+    ensures reads { Exactly (spec.reaches_at place row words.old) result words.new }
+    ensures row { IfOk result (λ _. IsRow row.count row.step row.offset) }
 {
-    if !does_reach(count, step, offset) {
+    if !does_reach(row.count, row.step, row.offset) {
         return Err(Fault {
             place,
             name: FaultName::TooFar,
