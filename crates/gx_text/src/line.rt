@@ -77,7 +77,8 @@ impl Line {
 
     /// How many words it has.
     pub fn count(&self) -> u32
-        ensures { result ≡ length self.now.words }
+        ensures value { result ≡ length self.now.words }
+        ensures few { result ≤ MAX_LINE }
     {
         self.places.len() as u32
     }
