@@ -11,7 +11,7 @@ use Rattle.gx_fraction.specs.Fraction.{Fraction}
 use Rattle.gx_table.specs.declared.fault.FaultName.TheVariants.{LongText}
 use Rattle.gx_reader.specs.declared.input.Input.{Input}
 use Rattle.gx_reader.specs.Reading.{reading, fault_at}
-use Rattle.gx_reader.specs.declared.read.TheConstants.{MAX_TEXT}
+use Rattle.gx_reader.specs.declared.reader.TheConstants.{MAX_TEXT}
 use Rattle.g4exact.specs.declared.outcome.Status.{Status}
 use Rattle.g4exact.specs.declared.outcome.Status.TheVariants.{Clean, Refuted, TextFault as Faulty, WordsFault, ReadFault, WriteFault, NoMemory}
 use Rattle.g4exact.specs.declared.command.Command.{Command}

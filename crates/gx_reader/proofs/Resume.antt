@@ -1,6 +1,6 @@
 -- Reading line by line: what is left of the text makes of what was declared so far what the whole text declares.
 use Rattle.std.proofs.Common.{◌≡◌, ℕ, ◌+◌, ◌<◌, ◌≤◌, true, false, cond, List, [], ◌∷◌, ◌++◌, length, drop, take, Option, None, Some, Result, Ok, Err, refl, sym, ap, ◌∙◌, subst, arith, append_assoc, append-nil, length-append, length-take}
-use Rattle.std.specs.Prelude.{◌==◌, position}
+use Rattle.std.specs.Prelude.{◌==◌, position, IfOk, IfErr}
 use Rattle.std.specs.Io.BufRead.{take_through}
 use Rattle.std.proofs.Math.Seq.{drop-length}
 use Rattle.std.proofs.lemmas.List.Elements.{All-append}
@@ -13,6 +13,7 @@ use Rattle.gx_text.specs.TextLine.{TextLine}
 use Rattle.gx_text.specs.Lines.{cut, ended, ended_with, fault_of}
 use Rattle.gx_text.specs.ScannerState.{ScannerState, Step, ending, going_on, number_after, after_bytes, Answers, AnswersEnd}
 use Rattle.gx_text.specs.ScannerState.ScannerState.{Scanning, Failed}
+use Rattle.gx_text.proofs.FaultLemmas.{fault_stays}
 use Rattle.gx_text.proofs.StepLemmas.{HasNoLf, first_lf, no_lf, is_lf, after_part, after_line}
 use Rattle.gx_reader.specs.declared.fault.TextFault.{TextFault}
 use Rattle.gx_reader.specs.declared.fault.ReadError.{ReadError}
@@ -20,12 +21,13 @@ use Rattle.gx_reader.specs.declared.fault.ReadError.TheVariants.{Text, NoMemory 
 use Rattle.gx_reader.specs.Form.{Declarations}
 use Rattle.gx_form.specs.First.{◌>>=◌}
 use Rattle.gx_reader.specs.Reading.{line_fault, with_line, read_lines, IsCause}
-use Rattle.gx_reader.specs.Resumed.{resumed, IsOpen, error_of}
+use Rattle.gx_reader.specs.declared.line_reader.LineReader.TheVariants.{Stopped}
+use Rattle.gx_reader.specs.Resumed.{resumed, IsOpen, error_of, answered, is_out_of_memory, Tells}
 
 ok_same : {A E : Type 0} (a b : A) → ◌≡◌ {A = Result A E} (Ok a) (Ok b) → a ≡ b
 ok_same a b e = cc
 
-ok_err : {A E : Type 0} (a : A) (e : E) → Ok a ≡ Err e → ⊥
+pub ok_err : {A E : Type 0} (a : A) (e : E) → Ok a ≡ Err e → ⊥
 ok_err a e q = cc
 
 fault_same : {A : Type 0} (a b : LineFault) → ◌≡◌ {A = Result A LineError} (Err (Fault a)) (Err (Fault b)) → a ≡ b
@@ -44,44 +46,66 @@ no_more (Err fault) = refl
 no_more (Ok d) = refl
 
 module _ (grid : Fraction) (d : Declarations) where
-  -- what a line that was answered makes of the text: it is declared, and then what is left
+  -- what a line that was answered makes of the text: it is declared, and then what is left, whatever comes later
   pub record Goes (s : ScannerState) (text : List ℕ) (o : Option TextLine) (new : ScannerState) (rest : List ℕ) : Type 0 where
-    pub same : resumed grid d s text ≡ (with_line grid d (Ok o) >>= (λ next. resumed grid next new rest))
-    pub kept : IsOpen (length rest) new
+    pub same : (later : List ℕ) → resumed grid d s (text ++ later) ≡ (with_line grid d (Ok o) >>= (λ next. resumed grid next new (rest ++ later)))
+    pub kept : (more : ℕ) → IsOpen (length text + more) s → IsOpen (length rest + more) new
     pub shorter : length rest < length text
 
   -- a step of a text: its answer is a line, or the text's fault
   record Steps (s : ScannerState) (text : List ℕ) (step : Step) (rest : List ℕ) : Type 0 where
     goes : (o : Option TextLine) → step.answer ≡ Ok o → Goes s text o step.state rest
-    stops : (fault : LineFault) → step.answer ≡ Err (Fault fault) → resumed grid d s text ≡ Err (line_fault fault)
+    stops : (fault : LineFault) → step.answer ≡ Err (Fault fault) → (later : List ℕ) → resumed grid d s (text ++ later) ≡ Err (line_fault fault)
+
+  -- a line that has a fault so far has it however the text goes on
+  module _ (number : ℕ) (line : List ℕ) (fault : LineFault) (clear : HasNoLf line) (wrong : fault_of number line ≡ Some fault) where
+    wrong_line : (part : List ℕ) (lines : List (List ℕ)) → read_lines grid d number ((line ++ part) ∷ lines) ≡ Err (line_fault fault)
+    wrong_line part lines =
+        ap (λ o. (with_line grid d (ended_with number (line ++ part) o) >>= (λ next. read_lines grid next (number + 1) lines))) (fault_stays number line part fault wrong)
+
+    faulty_by : (later : List ℕ) (place : Option ℕ) → position is_lf later ≡ place → read_lines grid d number (cut (line ++ later)) ≡ Err (line_fault fault)
+    faulty_by later (Some end) e =
+        let first = first_lf later end e in
+        let part = take end later in
+        ap (λ bytes. read_lines grid d number (cut bytes)) (ap (λ bytes. line ++ bytes) first.whole ∙ sym (append_assoc line part (10 ∷ drop (end + 1) later)))
+        ∙ ap (read_lines grid d number) (slice_split_at is_lf (line ++ part) 10 (drop (end + 1) later) (All-append (λ b. (b == 10) ≡ false) line part clear first.before) refl)
+        ∙ wrong_line part (cut (drop (end + 1) later))
+    faulty_by later None e =
+        let none = no_lf later e in
+        ap (read_lines grid d number) (slice_split_none is_lf (line ++ later) (All-append (λ b. (b == 10) ≡ false) line later clear none.all))
+        ∙ wrong_line later []
 
   module _ (number : ℕ) (line : List ℕ) (text : List ℕ) (kept : IsOpen (length text) (Scanning number line)) (some : 0 < length text) where
     -- a line that is ended by a LF
     module _ (part rest : List ℕ) (clear : HasNoLf part) (whole : text ≡ part ++ 10 ∷ rest) where
-      lines_are : resumed grid d (Scanning number line) text ≡ (with_line grid d (ended number (line ++ part)) >>= (λ next. read_lines grid next (number + 1) (cut rest)))
-      lines_are =
-          ap (λ bytes. read_lines grid d number (cut bytes)) (ap (λ bytes. line ++ bytes) whole ∙ sym (append_assoc line part (10 ∷ rest)))
-          ∙ ap (read_lines grid d number) (slice_split_at is_lf (line ++ part) 10 rest (All-append (λ b. (b == 10) ≡ false) line part kept.0 clear) refl)
+      bytes_are : (later : List ℕ) → line ++ (text ++ later) ≡ (line ++ part) ++ 10 ∷ (rest ++ later)
+      bytes_are later =
+          ap (λ bytes. line ++ (bytes ++ later)) whole ∙ ap (λ bytes. line ++ bytes) (append_assoc part (10 ∷ rest) later) ∙ sym (append_assoc line part (10 ∷ (rest ++ later)))
 
-      count : number_after number ≡ number + 1
-      count = omega (arith, kept.1)
+      lines_are : (later : List ℕ) → resumed grid d (Scanning number line) (text ++ later) ≡ (with_line grid d (ended number (line ++ part)) >>= (λ next. read_lines grid next (number + 1) (cut (rest ++ later))))
+      lines_are later =
+          ap (λ bytes. read_lines grid d number (cut bytes)) (bytes_are later)
+          ∙ ap (read_lines grid d number) (slice_split_at is_lf (line ++ part) 10 (rest ++ later) (All-append (λ b. (b == 10) ≡ false) line part kept.0 clear) refl)
 
       size : length part + length rest + 1 ≡ length text
       size = omega (arith, ap length whole, length-append part (10 ∷ rest))
 
+      count : number_after number ≡ number + 1
+      count = omega (arith, kept.1, size)
+
       ended_by : (r : Result (Option TextLine) LineFault) → ended number (line ++ part) ≡ r → Steps (Scanning number line) text (ending number r) rest
       ended_by (Ok o) e = record {
         goes = λ other is. record {
-          same = lines_are ∙ ap (λ r. (with_line grid d r >>= (λ next. read_lines grid next (number + 1) (cut rest)))) (e ∙ ap Ok (ok_same o other is))
-              ∙ ap (λ n. (with_line grid d (Ok other) >>= (λ next. read_lines grid next n (cut rest)))) (sym count);
-          kept = (λ k d h. absurd (omega arith), omega (arith, kept.1, count, size));
+          same = λ later. lines_are later ∙ ap (λ r. (with_line grid d r >>= (λ next. read_lines grid next (number + 1) (cut (rest ++ later))))) (e ∙ ap Ok (ok_same o other is))
+              ∙ ap (λ n. (with_line grid d (Ok other) >>= (λ next. read_lines grid next n (cut (rest ++ later))))) (sym count);
+          kept = λ more h. (λ k d i. absurd (omega arith), omega (arith, h.1, count, size));
           shorter = omega (arith, size);
         };
         stops = λ fault is. absurd (ok_err o (Fault fault) is);
       }
       ended_by (Err fault) e = record {
         goes = λ o is. absurd (ok_err o (Fault fault) (sym is));
-        stops = λ other is. lines_are ∙ ap (λ r. (with_line grid d r >>= (λ next. read_lines grid next (number + 1) (cut rest)))) (e ∙ ap Err (fault_same fault other is));
+        stops = λ other is later. lines_are later ∙ ap (λ r. (with_line grid d r >>= (λ next. read_lines grid next (number + 1) (cut (rest ++ later))))) (e ∙ ap Err (fault_same fault other is));
       }
 
     -- the bytes before the text's end
@@ -89,15 +113,11 @@ module _ (grid : Fraction) (d : Declarations) where
       clear_line : HasNoLf (line ++ text)
       clear_line = All-append (λ b. (b == 10) ≡ false) line text kept.0 clear
 
-      last_line : resumed grid d (Scanning number line) text ≡ with_line grid d (ended number (line ++ text))
-      last_line = ap (read_lines grid d number) (slice_split_none is_lf (line ++ text) clear_line) ∙ no_more (with_line grid d (ended number (line ++ text)))
+      further : (later : List ℕ) → resumed grid d (Scanning number line) (text ++ later) ≡ resumed grid d (Scanning number (line ++ text)) later
+      further later = ap (λ bytes. read_lines grid d number (cut bytes)) (sym (append_assoc line text later))
 
       going : Goes (Scanning number line) text None (Scanning number (line ++ text)) []
-      going = record {
-        same = ap (λ bytes. read_lines grid d number (cut bytes)) (sym (append-nil (line ++ text)));
-        kept = (clear_line, omega (arith, kept.1));
-        shorter = some;
-      }
+      going = record { same = further; kept = λ more h. (clear_line, omega (arith, h.1)); shorter = some }
 
       last_by : (o : Option LineFault) → fault_of number (line ++ text) ≡ o → Steps (Scanning number line) text (going_on number (line ++ text) o) []
       last_by None e = record {
@@ -106,7 +126,7 @@ module _ (grid : Fraction) (d : Declarations) where
       }
       last_by (Some fault) e = record {
         goes = λ o is. absurd (ok_err o (Fault fault) (sym is));
-        stops = λ other is. last_line ∙ ap (λ o. with_line grid d (ended_with number (line ++ text) o)) e ∙ ap (λ f. Err (line_fault f)) (fault_same fault other is);
+        stops = λ other is later. further later ∙ faulty_by number (line ++ text) other clear_line (e ∙ ap Some (fault_same fault other is)) later _ refl;
       }
 
     resumes_by : (place : Option ℕ) → position is_lf text ≡ place
@@ -133,10 +153,10 @@ module _ (grid : Fraction) (d : Declarations) where
   take_goes (Scanning number line) text o new kept some answer = rw answer.ok.1 ((resumes (Scanning number line) text kept some).goes o answer.ok.0)
 
   pub take_stops : (s : ScannerState) (text : List ℕ) (error : LineError) (new : ScannerState) → IsOpen (length text) s → 0 < length text
-      → Answers s (after_bytes s (take_through 10 text)) new (Err error) → IsCause (resumed grid d s text) (error_of error)
-  take_stops (Failed first) text error new kept some answer = absurd kept
-  take_stops (Scanning number line) text (Fault fault) new kept some answer = (resumes (Scanning number line) text kept some).stops fault (answer.cause (λ e. cc))
-  take_stops (Scanning number line) text NoMemory new kept some answer = tt
+      → Answers s (after_bytes s (take_through 10 text)) new (Err error) → (later : List ℕ) → IsCause (resumed grid d s (text ++ later)) (error_of error)
+  take_stops (Failed first) text error new kept some answer later = absurd kept
+  take_stops (Scanning number line) text (Fault fault) new kept some answer later = (resumes (Scanning number line) text kept some).stops fault (answer.cause (λ e. cc)) later
+  take_stops (Scanning number line) text NoMemory new kept some answer later = tt
 
   end_is : (number : ℕ) (line : List ℕ) → HasNoLf line → resumed grid d (Scanning number line) [] ≡ with_line grid d (ended number line)
   end_is number line clear =
@@ -161,3 +181,28 @@ cause_then NoReadMemory first next h = tt
 pub cause_same : {A : Type 0} (e : ReadError) (a b : Result A TextFault) → a ≡ b → IsCause b e → IsCause a e
 cause_same (Text fault) a b is h = is ∙ h
 cause_same NoReadMemory a b is h = tt
+
+-- an open state has room for fewer lines too
+pub open_for_less : (s : ScannerState) (more less : ℕ) → less ≤ more → IsOpen more s → IsOpen less s
+open_for_less (Failed error) more less h o = o
+open_for_less (Scanning number line) more less h o = (o.0, omega (arith, o.1, h))
+
+-- an error that isn't want of memory is the text's fault
+pub stopped_as : {A : Type 0} (r : Result A TextFault) (error : ReadError) → is_out_of_memory (Stopped error) ≡ false → IsCause r error → Err error ≡ answered r
+stopped_as r (Text fault) memory h = ap answered (sym h)
+stopped_as r NoReadMemory memory h = absurd cc
+
+text_same : {A : Type 0} (a b : TextFault) → ◌≡◌ {A = Result A ReadError} (Err (Text a)) (Err (Text b)) → a ≡ b
+text_same a b e = cc
+
+-- an answer that tells a text's reading tells the text's input or fault
+pub told_ok : {A : Type 0} (r : Result A TextFault) (result : Result A ReadError) → Tells (answered r) result → IfOk result (λ a. r ≡ Ok a)
+told_ok (Ok b) (Ok a) h = ap Ok (ok_same b a h)
+told_ok (Err fault) (Ok a) h = absurd (ok_err a (Text fault) (sym h))
+told_ok r (Err error) h = tt
+
+pub told_err : {A : Type 0} (r : Result A TextFault) (result : Result A ReadError) → Tells (answered r) result → IfErr result (IsCause r)
+told_err r (Ok a) h = tt
+told_err (Ok b) (Err (Text fault)) h = absurd (ok_err b (Text fault) h)
+told_err (Err other) (Err (Text fault)) h = ap Err (text_same other fault h)
+told_err r (Err NoReadMemory) h = tt

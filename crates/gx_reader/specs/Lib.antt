@@ -2,8 +2,8 @@ pub mod Form
 pub mod Given
 pub mod Judge
 pub mod Kind
-pub mod Left
 pub mod Rays
+pub mod Reader
 pub mod Reading
 pub mod Resumed
 pub mod SoFar

@@ -10,7 +10,7 @@ use Rattle.gx_text.specs.declared.lines.LineFault.TheVariants.{LongLine, NotAsci
 use Rattle.gx_text.specs.TextLine.{TextLine}
 use Rattle.gx_text.specs.Lines.{cut, ended}
 use Rattle.gx_tree.specs.World.{World}
-use Rattle.gx_reader.specs.declared.read.TheConstants.{MAX_TEXT}
+use Rattle.gx_reader.specs.declared.reader.TheConstants.{MAX_TEXT}
 use Rattle.gx_reader.specs.declared.fault.TextFault.{TextFault}
 use Rattle.gx_reader.specs.declared.fault.ReadError.{ReadError}
 use Rattle.gx_reader.specs.declared.fault.ReadError.TheVariants.{Text, NoMemory}
@@ -36,6 +36,10 @@ abbrev pub read_lines : Fraction → Declarations → ℕ → List (List ℕ) �
 read_lines grid d number [] = Ok d
 read_lines grid d number (line ∷ lines) = with_line grid d (ended number line) >>= (λ next. read_lines grid next (number + 1) lines)
 
+-- what the lines of a text declare
+abbrev pub text_lines : Fraction → List ℕ → Result Declarations TextFault
+text_lines grid text = read_lines grid nothing_declared 1 (cut text)
+
 -- a text has a world
 abbrev pub input_of : Option World → List Ray → Result Input TextFault
 input_of None rays = Err (fault_at 0 0 NotBuilt)
@@ -48,7 +52,7 @@ input_from read = read >>= (λ d. input_of d.world d.rays)
 abbrev pub reading : Fraction → List ℕ → Result Input TextFault
 reading grid text =
     if nat_lt MAX_TEXT (length text) then Err (fault_at 0 0 LongText)
-    else input_from (read_lines grid nothing_declared 1 (cut text))
+    else input_from (text_lines grid text)
 
 -- the cause of a reader's error: the text's fault; want of memory has none
 abbrev pub IsCause : {A : Type 0} → Result A TextFault → ReadError → Type 0

@@ -1,3 +1,4 @@
+use gx_num::NoMemory;
 use gx_table::FaultName;
 use std::alloc::{AllocError, AllocFailed};
 use thiserror::Error;
@@ -35,6 +36,17 @@ impl From<TextFault> for ReadError {
 
     fn from(fault: TextFault) -> Self {
         ReadError::Text(fault)
+    }
+}
+
+impl From<NoMemory> for ReadError {
+    ghost use Rattle.std.specs.Prelude.{◌≡◌};
+    ghost use Rattle.gx_reader.specs.declared.fault.ReadError.TheVariants.{NoMemory as OutOfMemory};
+
+    ghost from_gives = { λ _ e. e ≡ OutOfMemory };
+
+    fn from(_: NoMemory) -> Self {
+        ReadError::NoMemory
     }
 }
 

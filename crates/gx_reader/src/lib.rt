@@ -6,7 +6,8 @@ mod fault;
 mod input;
 mod judge;
 mod kind;
-mod read;
+mod line_reader;
+mod reader;
 mod tag;
 #[cfg(test)]
 mod tests;
@@ -15,4 +16,4 @@ mod world;
 
 pub use fault::{ReadError, TextFault};
 pub use input::{Input, Rays};
-pub use read::{MAX_TEXT, read_text};
+pub use reader::{MAX_TEXT, Reader, read_text};

@@ -2,7 +2,7 @@ use Rattle.std.proofs.Common.{sym, ap, ◌∙◌}
 use Rattle.std.proofs.lemmas.Result.{err_from_is_err_and}
 use Rattle.gx_reader.specs.Reading.{input_of, input_from}
 use Rattle.gx_reader.proofs.Resume.{ends, end_stops, cause_then, cause_same}
-use Rattle.gx_reader.proofs.read.Reading.finish.Goals as goal
+use Rattle.gx_reader.proofs.line_reader.Reading.finish.Goals as goal
 
 pub returns-in_err-finish-clause-err : goal.returns-in_err-finish-clause-err
 returns-in_err-finish-clause-err c =

@@ -1,0 +1,161 @@
+ghost use Rattle.std.specs.Prelude.{◌≡◌, ◌<◌, ◌+◌, ◌^◌, ◌++◌, ℕ, List, [], length, false, IfOk, IfErr, OnOk, Ok, IsTrue};
+ghost use Rattle.gx_text.specs.ScannerState.ScannerState.{Scanning};
+ghost use Rattle.gx_reader.specs.Form.{nothing_declared};
+ghost use Rattle.gx_reader.specs.Reading.{with_line, text_lines, input_from, IsCause};
+ghost use Rattle.gx_reader.specs.Resumed.{IsOpen, IsOpenReader, left_by, is_out_of_memory, lines_as, lines_input, answered, Tells};
+
+use crate::declared::Declared;
+use crate::fault::{ReadError, TextFault};
+use crate::input::Input;
+use gx_expr::Grid;
+use gx_table::FaultName;
+use gx_text::{Line, LineError, LineFault, Lines};
+use std::alloc::Global;
+
+impl From<LineError> for ReadError {
+    ghost use Rattle.std.specs.Prelude.{◌≡◌};
+    ghost use Rattle.gx_reader.specs.Resumed.{error_of};
+
+    ghost from_gives = { λ error e. e ≡ error_of error };
+
+    fn from(error: LineError) -> Self {
+        match error {
+            LineError::Fault(LineFault::LongLine { line }) => {
+                text_fault(line, 0, FaultName::LongLine)
+            }
+            LineError::Fault(LineFault::NotAscii { line, column }) => {
+                text_fault(line, column, FaultName::NotAscii)
+            }
+            LineError::NoMemory => ReadError::NoMemory,
+        }
+    }
+}
+
+pub fn text_fault(line: u32, word: u32, name: FaultName) -> ReadError
+    ensures { result ≡ ReadError.Text (record { line = line; word = word; name = name }) }
+{
+    ReadError::Text(TextFault { line, word, name })
+}
+
+/// The lines of a text that comes in pieces, or the error that ended reading.
+#[derive(Drop)]
+pub enum LineReader {
+    Reading(Reading),
+    Stopped(ReadError),
+}
+
+impl LineReader {
+    pub fn new(alloc: Global, grid: Grid) -> LineReader
+        ensures same { (text : List ℕ) → lines_as result text ≡ answered (text_lines grid text) }
+        ensures kept { (more : ℕ) → 1 + more < 2 ^ 32 → IsOpenReader more result }
+        ensures memory { is_out_of_memory result ≡ false }
+    {
+        LineReader::Reading(Reading::new(alloc, grid))
+    }
+
+    pub fn is_out_of_memory(&self) -> bool
+        ensures { result ≡ is_out_of_memory self.now }
+    {
+        match self {
+            LineReader::Stopped(ReadError::NoMemory) => true,
+            _ => false,
+        }
+    }
+
+    /// Takes the next piece of the text.
+    pub fn read(&mut self, piece: &[u8])
+        requires { IsOpenReader (length piece.now) self.old }
+        ensures same { is_out_of_memory self.new ≡ false → (later : List ℕ) → lines_as self.new later ≡ lines_as self.old (piece.now ++ later) }
+        ensures stays { IsTrue (is_out_of_memory self.old) → self.new ≡ self.old }
+        ensures kept { (more : ℕ) → IsOpenReader (length piece.now + more) self.old → IsOpenReader more self.new }
+    {
+        let outcome = match self {
+            LineReader::Reading(reading) => reading.read(piece),
+            LineReader::Stopped(_) => Ok(()),
+        };
+        if let Err(error) = outcome {
+            *self = LineReader::Stopped(error);
+        }
+    }
+
+    pub fn finish(self) -> Result<Input, ReadError>
+        requires { IsOpenReader 0 self }
+        ensures { Tells (lines_input self []) result }
+    {
+        match self {
+            LineReader::Reading(reading) => reading.finish(),
+            LineReader::Stopped(error) => Err(error),
+        }
+    }
+}
+
+/// A text that is read line by line.
+#[derive(Drop)]
+pub struct Reading {
+    lines: Lines,
+    declared: Declared,
+}
+
+impl Reading {
+    fn new(alloc: Global, grid: Grid) -> Reading
+        ensures lines { result.lines ≡ Scanning 1 [] }
+        ensures grid { result.declared.grid ≡ grid }
+        ensures nothing { result.declared.so_far ≡ nothing_declared }
+    {
+        Reading {
+            lines: Lines::new(alloc),
+            declared: Declared::new(alloc, grid),
+        }
+    }
+
+    fn read(&mut self, piece: &[u8]) -> Result<(), ReadError>
+        requires { IsOpen (length piece.now) self.old.lines }
+        ensures ok { OnOk result ((later : List ℕ) → left_by self.new later ≡ left_by self.old (piece.now ++ later)) }
+        ensures kept { OnOk result ((more : ℕ) → IsOpen (length piece.now + more) self.old.lines → IsOpen more self.new.lines) }
+        ensures err { IfErr result (λ error. (later : List ℕ) → IsCause (left_by self.old (piece.now ++ later)) error) }
+    {
+        let mut rest = piece;
+        while !rest.is_empty() {
+            rest = self.take(rest)?;
+        }
+        Ok(())
+    }
+
+    // Takes the next line of a text, or the bytes before its end, and gives what is left.
+    fn take<'a>(&mut self, text: &'a [u8]) -> Result<&'a [u8], ReadError>
+        requires some { 0 < length text.now }
+        requires kept { IsOpen (length text.now) self.old.lines }
+        ensures ok { IfOk result (λ rest. (later : List ℕ) → left_by self.new (rest.now ++ later) ≡ left_by self.old (text.now ++ later)) }
+        ensures kept { IfOk result (λ rest. (more : ℕ) → IsOpen (length text.now + more) self.old.lines → IsOpen (length rest.now + more) self.new.lines) }
+        ensures shorter { IfOk result (λ rest. length rest.now < length text.now) }
+        ensures err { IfErr result (λ error. (later : List ℕ) → IsCause (left_by self.old (text.now ++ later)) error) }
+    {
+        let (count, line) = self.lines.take(text)?;
+        declare(&mut self.declared, line)?;
+        Ok(&text[count..])
+    }
+
+    pub fn finish(self) -> Result<Input, ReadError>
+        requires { IsOpen 0 self.lines }
+        ensures ok { IfOk result (λ input. input_from (left_by self []) ≡ Ok input) }
+        ensures err { IfErr result (IsCause (input_from (left_by self []))) }
+    {
+        let Reading {
+            lines,
+            mut declared,
+        } = self;
+        declare(&mut declared, lines.finish()?)?;
+        Ok(declared.finish()?)
+    }
+}
+
+fn declare(declared: &mut Declared, line: Option<Line>) -> Result<(), ReadError>
+    ensures grid { declared.new.grid ≡ declared.old.grid }
+    ensures ok { OnOk result (with_line declared.old.grid declared.old.so_far (Ok line) ≡ Ok declared.new.so_far) }
+    ensures err { IfErr result (IsCause (with_line declared.old.grid declared.old.so_far (Ok line))) }
+{
+    match line {
+        Some(line) => declared.take(&line),
+        None => Ok(()),
+    }
+}
