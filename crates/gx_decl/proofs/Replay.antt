@@ -1,13 +1,10 @@
 -- A figure that is read from any source is the figure of some list of values: what was read, read again.
-use Rattle.std.proofs.Common.{◌≡◌, ◌≤◌, ℕ, zero, suc, ◌+◌, ◌^◌, Bool, true, false, ◌&&◌, ℤ, pos, ◌≤ℤ◌, ◌<ℤ◌, unsigned_abs, int_lt, int_le, List, [], ◌∷◌, ◌++◌, Option, Some, None, Ok, Err, refl, sym, ap, ◌∙◌, subst, arith, append_assoc, if◌then◌else◌}
-use Rattle.std.specs.Prelude.{nat_le, not}
+use Rattle.std.proofs.Common.{◌≡◌, ℕ, zero, suc, Bool, true, false, ℤ, pos, unsigned_abs, int_le, List, [], ◌∷◌, ◌++◌, Some, None, Ok, Err, refl, ap, ◌∙◌, subst, append_assoc, if◌then◌else◌}
+use Rattle.std.specs.Prelude.{not}
 use Rattle.std.specs.Ordering.{int_eq}
-use Rattle.std.proofs.lemmas.Bool.Decides.{nat_tests}
 use Rattle.gx_num.specs.declared.vector.V3.{V3}
-use Rattle.gx_num.specs.declared.vector.TheConstants.{M}
 use Rattle.gx_table.specs.declared.fault.FaultName.{FaultName}
 use Rattle.gx_form.specs.Form.{Outcome, Form, and_then, ◌>>=◌, pure, collect_from}
-use Rattle.gx_shapes.specs.declared.section.Scale.{Scale}
 use Rattle.gx_shapes.specs.declared.section.Section.{Section}
 use Rattle.gx_shapes.specs.declared.figure.Figure.{Figure}
 use Rattle.gx_shapes.specs.declared.kind.SolidKind.{SolidKind}
@@ -16,10 +13,9 @@ use Rattle.gx_shapes.specs.Extrusion.{are_whole}
 use Rattle.gx_shapes.specs.Source.{Source, refuse}
 use Rattle.gx_shapes.specs.Figure as spec
 use Rattle.gx_shapes.specs.Figure.{are_near}
-use Rattle.gx_shapes.specs.Numbers.{Numbers, start, numbers}
+use Rattle.gx_shapes.specs.Numbers.{Numbers, numbers}
 use Rattle.gx_shapes.specs.Solid.{kind_of}
 use Rattle.gx_shapes.specs.Accepted.{IsFigure}
-use borrow.Author.Differences.{ints}
 
 abbrev at : ℕ → List ℤ → Numbers
 at count left = record { count = count; left = left }

@@ -1,5 +1,5 @@
 -- The words of a line as a source of values: what is read is a value of a list too.
-use Rattle.std.proofs.Common.{◌≡◌, ◌≤◌, ℕ, ◌+◌, ◌^◌, Bool, true, false, ◌&&◌, ◌||◌, ℤ, pos, ◌≤ℤ◌, unsigned_abs, int_lt, int_le, List, [], ◌∷◌, Option, Some, None, Result, Ok, Err, IfOk, refl, sym, ap, ◌∙◌, subst, arith, if◌then◌else◌}
+use Rattle.std.proofs.Common.{◌≡◌, ◌+◌, Bool, true, false, ◌&&◌, ◌||◌, ℤ, pos, unsigned_abs, int_le, [], ◌∷◌, Option, Some, None, Result, Ok, Err, IfOk, refl, sym, ap, ◌∙◌, if◌then◌else◌}
 use Rattle.std.specs.Prelude.{nat_le}
 use Rattle.gx_num.specs.declared.vector.TheConstants.{M}
 use Rattle.gx_fraction.specs.Fraction.{Fraction}

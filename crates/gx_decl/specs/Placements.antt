@@ -1,6 +1,6 @@
 -- The lines that place volumes: `:PLACE`, `:REPL` and `:PLACE_PARAM`.
 -- After the documentation of Geant4's ASCII text geometry format; the order of words of `:REPL` and `:PLACE_PARAM` is this project's own.
-use Rattle.std.specs.Prelude.{ℕ, ◌-◌, ◌*◌, ℤ, pos, negsuc, unsigned_abs, Bool, ◌==◌, ◌&&◌, nat_le, nat_lt, List, [], ◌∷◌, codes, Option, None, Some, if◌then◌else◌}
+use Rattle.std.specs.Prelude.{ℕ, ◌-◌, ◌*◌, ℤ, pos, negsuc, unsigned_abs, Bool, ◌==◌, ◌&&◌, nat_le, nat_lt, List, [], ◌∷◌, codes, None, Some, if◌then◌else◌}
 use Rattle.std.specs.Ordering.{int_eq}
 use Rattle.gx_num.specs.declared.vector.TheConstants.{M}
 use Rattle.gx_table.specs.declared.fault.FaultName.TheVariants.{Axis, Copies, TooFar}

@@ -1,6 +1,5 @@
 -- What is known of a declaration, whatever the line.
 use Rattle.std.specs.Prelude.{◌≡◌, ℕ, ◌*◌, ◌<◌, ◌≤◌, ℤ, false, unsigned_abs, List, Option, None, Some, IsTrue}
-use Rattle.gx_num.specs.declared.vector.V3.{V3}
 use Rattle.gx_num.specs.declared.vector.TheConstants.{M}
 use Rattle.gx_num.specs.declared.ray.Ray.{Ray}
 use Rattle.gx_num.specs.Vector.{IsWithin}

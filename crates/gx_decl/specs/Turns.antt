@@ -1,6 +1,6 @@
 -- The lines of rotations: `:ROTM`.
 -- After the documentation of Geant4's ASCII text geometry format; what the values mean is this project's own.
-use Rattle.std.specs.Prelude.{ℕ, ◌+◌, ℤ, pos, negsuc, nat_le, [], ◌∷◌, Option, None, Some, Result, Ok, Err, if◌then◌else◌}
+use Rattle.std.specs.Prelude.{◌+◌, ℤ, pos, negsuc, nat_le, [], ◌∷◌, Option, None, Some, Result, Ok, Err, if◌then◌else◌}
 use Rattle.gx_table.specs.declared.fault.FaultName.TheVariants.{NotAxis as NotAxisName, Mirror as MirrorName, UnitKind}
 use Rattle.gx_expr.specs.declared.fault.WholeFault.{WholeFault}
 use Rattle.gx_expr.specs.declared.fault.WholeFault.TheVariants.{UnitKind as Marked, Range}

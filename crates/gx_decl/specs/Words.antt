@@ -19,7 +19,6 @@ use Rattle.gx_expr.specs.Quantity.{Quantity}
 use Rattle.gx_expr.specs.Token.{is_name_byte}
 use Rattle.gx_expr.specs.Eval.{value_of_word}
 use Rattle.gx_expr.specs.Convert as convert
-use Rattle.gx_form.specs.declared.fault.Fault.{Fault}
 use Rattle.gx_form.specs.Form.{Outcome, Form, ◌>>=◌, pure}
 
 -- the words that are left, the number of the word read last, and what expressions and lengths are read by

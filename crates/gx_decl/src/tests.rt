@@ -1,12 +1,12 @@
-//! Lines on a grid of 1 mm, with their declarations or first faults worked out by hand.
+//! Lines on a grid of 1 mm where d is 10, with what they declare or their first fault, worked out by hand.
 use crate::{Declaration, Form, decl};
 use gx_expr::{Grid, Params, Value};
 use gx_form::Refusal;
 use gx_num::V3;
-use gx_shapes::SolidKind;
-use gx_table::FaultName;
+use gx_table::fault_text;
 use gx_text::{Line, Lines, Name};
 use std::alloc::Global;
+use std::process::Abort;
 use std::test::Fail;
 
 fn line_of(alloc: Global, text: &[u8]) -> Result<Line, Fail> {
@@ -30,258 +30,232 @@ fn declared(alloc: Global, text: &[u8]) -> Result<Result<Declaration, Refusal>, 
     Ok(decl(alloc, &line, &params, &grid))
 }
 
-fn fault_of(alloc: Global, text: &[u8]) -> Result<Option<(u32, FaultName)>, Fail> {
-    match declared(alloc, text)? {
-        Ok(_) => Ok(None),
-        Err(Refusal::At(fault)) => Ok(Some((fault.place, fault.name))),
+fn push_name(text: &mut String, name: &Name) -> Result<(), Fail> {
+    text.push_str(" ")?;
+    text.push_str(str::from_utf8(name.bytes())?)?;
+    Ok(())
+}
+
+fn push_point(alloc: Global, text: &mut String, v: V3) -> Result<(), Fail> {
+    text.push_str(&format!(in alloc; " {} {} {}", v.x, v.y, v.z)?)?;
+    Ok(())
+}
+
+fn push_row(
+    alloc: Global,
+    text: &mut String,
+    count: u32,
+    step: i64,
+    offset: i64,
+) -> Result<(), Fail> {
+    text.push_str(&format!(in alloc; " {count} {step} {offset}")?)?;
+    Ok(())
+}
+
+// The numbers of a form, rows one by one.
+fn push_form(alloc: Global, text: &mut String, form: Form) -> Result<(), Fail> {
+    match form {
+        Form::Single { copy, offset } => {
+            text.push_str(&format!(in alloc; " single {copy}")?)?;
+            push_point(alloc, text, offset)
+        }
+        Form::Replica { axis, count, width } => {
+            text.push_str(&format!(in alloc; " replica {axis} {count} {width}")?)?;
+            Ok(())
+        }
+        Form::Linear {
+            axis,
+            count,
+            step,
+            offset,
+        } => {
+            text.push_str(&format!(in alloc; " linear {axis}")?)?;
+            push_row(alloc, text, count, step, offset)
+        }
+        Form::Square {
+            plane,
+            first_count,
+            second_count,
+            first_step,
+            second_step,
+            first_offset,
+            second_offset,
+        } => {
+            text.push_str(&format!(in alloc; " square {plane}")?)?;
+            push_row(alloc, text, first_count, first_step, first_offset)?;
+            push_row(alloc, text, second_count, second_step, second_offset)
+        }
+    }
+}
+
+fn push_names(text: &mut String, what: &str, first: &Name, second: &Name) -> Result<(), Fail> {
+    text.push_str(what)?;
+    push_name(text, first)?;
+    push_name(text, second)
+}
+
+fn push(alloc: Global, text: &mut String, declaration: &Declaration) -> Result<(), Fail> {
+    match declaration {
+        Declaration::Param { name, value } => {
+            text.push_str("param")?;
+            push_name(text, name)?;
+            text.push_str(&format!(in alloc; " {}/{}", value.num(), value.den())?)?;
+            Ok(())
+        }
+        Declaration::Solid { name, solid } => {
+            text.push_str(&format!(in alloc; "{:?}", solid.kind())?)?;
+            push_name(text, name)
+        }
+        Declaration::Volume {
+            name,
+            solid,
+            material,
+        } => {
+            text.push_str(&format!(in alloc; "{:?} ", solid.kind())?)?;
+            push_names(text, "volume", name, material)
+        }
+        Declaration::Named {
+            name,
+            solid,
+            material,
+        } => {
+            push_names(text, "volume", name, solid)?;
+            push_name(text, material)
+        }
+        Declaration::Place {
+            volume,
+            mother,
+            rotation,
+            form,
+        } => {
+            push_names(text, "place", volume, mother)?;
+            if let Some(rotation) = rotation {
+                push_name(text, rotation)?;
+            }
+            push_form(alloc, text, *form)
+        }
+        Declaration::Turn { name, rotation } => {
+            text.push_str(&format!(in alloc; "turn {}", rotation.index())?)?;
+            push_name(text, name)
+        }
+        Declaration::Trace { ray } => {
+            text.push_str("trace")?;
+            push_point(alloc, text, ray.o)?;
+            push_point(alloc, text, ray.d)
+        }
+        Declaration::Passed => {
+            text.push_str("passed")?;
+            Ok(())
+        }
+    }
+}
+
+fn answer(alloc: Global, line: &[u8]) -> Result<String, Fail> {
+    match declared(alloc, line)? {
+        Ok(declaration) => {
+            let mut text = String::new(alloc);
+            push(alloc, &mut text, &declaration)?;
+            Ok(text)
+        }
+        Err(Refusal::At(fault)) => {
+            Ok(format!(in alloc; "{} {}", fault.place, fault_text(fault.name))?)
+        }
         Err(Refusal::NoMemory) => Err("no memory".into()),
     }
 }
 
-fn point(x: i64, y: i64, z: i64) -> V3 {
-    V3 { x, y, z }
-}
-
-#[test]
-fn a_line_has_its_first_fault(rt: HostRuntime) -> Result<(), Fail> {
-    let refused = [
-        (b":FIELD x".as_slice(), 1, FaultName::Tag),
-        (b"world", 1, FaultName::Tag),
-        (b":P", 2, FaultName::Words),
-        (b":P a.b 1", 2, FaultName::Name),
-        (b":P a 1/0", 3, FaultName::DivideByZero),
-        (b":P a 1 2", 4, FaultName::Words),
-        (b":SOLID $s BOX 1 1 1", 2, FaultName::Name),
-        (b":SOLID s CONS 1 2 3", 3, FaultName::SolidKind),
-        (b":SOLID s TRD 0 0 1 1 5", 5, FaultName::Half),
-        (b":SOLID s TET 0 0 0 1 0 0 0 1 0 1 1 0", 3, FaultName::Flat),
-        (
-            b":SOLID s TET 0 0 0 1 0 0 0 1 0 1 1 0 5",
-            16,
-            FaultName::Words,
-        ),
-        (b":SOLID s EXTRUDED 2 0", 4, FaultName::Count),
-        (b":SOLID s EXTRUDED 17 0", 4, FaultName::Vertices),
-        (
-            b":SOLID s EXTRUDED 3 0 0 1 0 2 0 2 0 0 0 1 1 0 0 1",
-            3,
-            FaultName::Flat,
-        ),
-        (
-            b":SOLID s EXTRUDED 3 0 0 1 0 0 1 2 0 0 0 1*mm",
-            15,
-            FaultName::UnitKind,
-        ),
-        (b":SOLID s TESSELLATED 1 5", 5, FaultName::Count),
-        (b":VOLU v BOX 1 0 1 Air", 5, FaultName::Half),
-        (b":VOLU v BOX 0 x 1 Air", 4, FaultName::Half),
-        (b":VOLU world BOX 1 1 1", 7, FaultName::Words),
-        (b":VOLU world BOX 10 1", 6, FaultName::Words),
-        (b":VOLU a sol", 3, FaultName::SolidKind),
-        (b":VOLU a :sol Air", 3, FaultName::Name),
-        (b":PLACE b 1*mm world r0 0 0 0", 3, FaultName::UnitKind),
-        (b":PLACE b 2147483648 world r0 0 0 0", 3, FaultName::Copies),
-        (b":PLACE b 1 world r0 0 0 1/2", 8, FaultName::OffGrid),
-        (b":REPL cell world R 5 4", 4, FaultName::Axis),
-        (b":REPL cell world X 4097 4", 5, FaultName::Copies),
-        (b":REPL cell world X 5 4 1", 7, FaultName::Copies),
-        (b":REPL cell world X 5 4 1/3", 7, FaultName::OffGrid),
-        (b":REPL cell world X 5 4 0 0", 8, FaultName::Words),
-        (b":PLACE_PARAM a 1 b CIRCLE_X r 2 1 0", 5, FaultName::Axis),
-        (
-            b":PLACE_PARAM a 1 b LINEAR_X r 3 16777216 0",
-            8,
-            FaultName::TooFar,
-        ),
-        (
-            b":PLACE_PARAM a 1 b LINEAR_X r 3 16777216 0 0",
-            10,
-            FaultName::Words,
-        ),
-        (
-            b":PLACE_PARAM a 1 b LINEAR_X r 3 16777217 0",
-            8,
-            FaultName::TooFar,
-        ),
-        (
-            b":PLACE_PARAM a 1 b SQUARE_XY r 64 65 1 1 0 0",
-            8,
-            FaultName::Copies,
-        ),
-        (
-            b":PLACE_PARAM a 1 b SQUARE_XY r 3 3 16777216 16777216 0 0",
-            9,
-            FaultName::TooFar,
-        ),
-        (
-            b":PLACE_PARAM a 1 b SQUARE_XY r 3 3 1 16777216 0 0",
-            10,
-            FaultName::TooFar,
-        ),
-        (b":ROTM r 0 0 45", 5, FaultName::NotAxis),
-        (b":ROTM r 0 0 1*mm", 5, FaultName::UnitKind),
-        (b":ROTM r 0 0", 5, FaultName::Words),
-        (b":ROTM r 1 0 0 0 1 0 0 0 -1", 3, FaultName::Mirror),
-        (b":ROTM r 1 0 0 0 1 0 0 0 2", 11, FaultName::NotAxis),
-        (b":ROTM r 1 0 0 0 1 0 0 0 1*deg", 11, FaultName::UnitKind),
-        (b":ROTM r 1 0 0 0 1 0 0 0 1 0", 12, FaultName::Words),
-        (b":RAY 1 2 3 0 0 0", 5, FaultName::Direction),
-        (b":RAY 1 2 3 0 0 0 0", 8, FaultName::Words),
-    ];
-    for (text, place, name) in refused {
-        assert_eq!(rt; fault_of(rt.alloc(), text)?, Some((place, name)));
-    }
-    let accepted = [
-        b":MATE anything $ :goes".as_slice(),
-        b":colour slab 1. 0. 0.",
-        b":check_overlaps",
-        b":volu world box 1.*cm $d 1 Air",
-        b":SOLID s TRD 1 2 1 2 5",
-        b":VOLU v EXTRUDED 4 -10 -10 10 -10 10 10 -10 10 2 -5 0 0 1 5 0 0 1/2 Air",
-        b":SOLID s TESSELLATED 4 3 0 0 0 0 4 0 4 0 0 3 0 0 0 4 0 0 0 0 4 3 0 0 0 0 0 4 0 4 0 3 4 0 0 0 4 0 0 0 4",
-    ];
-    for text in accepted {
-        assert_eq!(rt; fault_of(rt.alloc(), text)?, None);
+// Each row is a line and its answer.
+fn check(rt: &impl Abort, alloc: Global, table: &str) -> Result<(), Fail> {
+    for row in table.lines() {
+        let Some((line, wanted)) = row.split_once(" -> ") else {
+            return Err("no row".into());
+        };
+        let found = answer(alloc, line.as_bytes())?;
+        assert!(rt; found.as_str() == wanted, "{line}: {}", found.as_str());
     }
     Ok(())
 }
 
-fn bytes_if_any(name: &Option<Name>) -> Option<&[u8]> {
-    match name {
-        Some(name) => Some(name.bytes()),
-        None => None,
-    }
+#[test]
+fn tags_and_parameters(rt: HostRuntime) -> Result<(), Fail> {
+    let table = ":FIELD x -> 1 Tag
+world -> 1 Tag
+:MATE anything $ :goes -> passed
+:colour slab 1. 0. 0. -> passed
+:CHECK_OVERLAPS -> passed
+:P a_1 $d*2 -> param a_1 20/1
+:P -> 2 Words
+:P a.b 1 -> 2 Name
+:P a 1/0 -> 3 DivideByZero
+:P a 1 2 -> 4 Words
+:RAY 1 -2 3 0 0 4 -> trace 1 -2 3 0 0 4
+:RAY 1 2 3 0 0 0 -> 5 Direction
+:RAY 1 2 3 0 0 0 0 -> 8 Words";
+    check(&rt, rt.alloc(), table)
 }
 
 #[test]
-fn placements_are_read(rt: HostRuntime) -> Result<(), Fail> {
-    let cases = [
-        (
-            b":PLACE b 1 world r0 -5 0 $d".as_slice(),
-            Some(b"r0".as_slice()),
-            Form::Single {
-                copy: 1,
-                offset: point(-5, 0, 10),
-            },
-        ),
-        (
-            b":REPL b world Z 5 4 0",
-            None,
-            Form::Replica {
-                axis: 2,
-                count: 5,
-                width: 4,
-            },
-        ),
-        (
-            b":PLACE_PARAM b 1 world LINEAR_X R00 5 20 -40",
-            Some(b"R00".as_slice()),
-            Form::Linear {
-                axis: 0,
-                count: 5,
-                step: 20,
-                offset: -40,
-            },
-        ),
-        (
-            b":PLACE_PARAM b 1 world square_xz r0 2 3 20 30 -4 -5",
-            Some(b"r0".as_slice()),
-            Form::Square {
-                plane: 1,
-                first_count: 2,
-                second_count: 3,
-                first_step: 20,
-                second_step: 30,
-                first_offset: -4,
-                second_offset: -5,
-            },
-        ),
-    ];
-    for (text, turn, wanted) in cases {
-        match declared(rt.alloc(), text)? {
-            Ok(
-                Declaration::Place {
-                    volume,
-                    mother,
-                    rotation,
-                    form,
-                },
-            ) => {
-                assert_eq!(rt; volume.bytes(), b"b".as_slice());
-                assert_eq!(rt; mother.bytes(), b"world".as_slice());
-                assert!(rt; bytes_if_any(&rotation) == turn);
-                assert_eq!(rt; form, wanted);
-            }
-            _ => return Err("no placement".into()),
-        }
-    }
-    Ok(())
+fn solids_and_volumes(rt: HostRuntime) -> Result<(), Fail> {
+    let table = ":volu world box 1.*cm $d 1 Air -> Cuboid volume world Air
+:SOLID s TRD 1 2 1 2 5 -> Trd s
+:SOLID $s BOX 1 1 1 -> 2 Name
+:SOLID s CONS 1 2 3 -> 3 SolidKind
+:SOLID s TRD 0 0 1 1 5 -> 5 Half
+:SOLID s TET 0 0 0 1 0 0 0 1 0 1 1 0 -> 3 Flat
+:SOLID s TET 0 0 0 1 0 0 0 1 0 1 1 0 5 -> 16 Words
+:VOLU v BOX 1 0 1 Air -> 5 Half
+:VOLU v BOX 0 x 1 Air -> 4 Half
+:VOLU world BOX 1 1 1 -> 7 Words
+:VOLU world BOX 10 1 -> 6 Words
+:VOLU a sol Air -> volume a sol Air
+:VOLU a sol -> 3 SolidKind
+:VOLU a :sol Air -> 3 Name
+:VOLU v EXTRUDED 4 -10 -10 10 -10 10 10 -10 10 2 -5 0 0 1 5 0 0 1/2 Air -> Extruded volume v Air
+:SOLID s EXTRUDED 2 0 -> 4 Count
+:SOLID s EXTRUDED 17 0 -> 4 Vertices
+:SOLID s EXTRUDED 3 0 0 1 0 2 0 2 0 0 0 1 1 0 0 1 -> 3 Flat
+:SOLID s EXTRUDED 3 0 0 1 0 0 1 2 0 0 0 1*mm -> 15 UnitKind
+:SOLID s TESSELLATED 4 3 0 0 0 0 4 0 4 0 0 3 0 0 0 4 0 0 0 0 4 3 0 0 0 0 0 4 0 4 0 3 4 0 0 0 4 0 0 0 4 -> Tessellated s
+:SOLID s TESSELLATED 1 5 -> 5 Count";
+    check(&rt, rt.alloc(), table)
+}
+
+#[test]
+fn placements(rt: HostRuntime) -> Result<(), Fail> {
+    let table = ":PLACE b 1 world r0 -5 0 $d -> place b world r0 single 1 -5 0 10
+:PLACE b 1*mm world r0 0 0 0 -> 3 UnitKind
+:PLACE b 2147483648 world r0 0 0 0 -> 3 Copies
+:PLACE b 1 world r0 0 0 1/2 -> 8 OffGrid
+:REPL cell world X 5 4 -> place cell world replica 0 5 4
+:REPL cell world Z 5 4 0 -> place cell world replica 2 5 4
+:REPL cell world R 5 4 -> 4 Axis
+:REPL cell world X 4097 4 -> 5 Copies
+:REPL cell world X 5 4 1 -> 7 Copies
+:REPL cell world X 5 4 1/3 -> 7 OffGrid
+:REPL cell world X 5 4 0 0 -> 8 Words
+:PLACE_PARAM slab 1 module LINEAR_X R00 5 20 -40 -> place slab module R00 linear 0 5 20 -40
+:PLACE_PARAM a 1 b CIRCLE_X r 2 1 0 -> 5 Axis
+:PLACE_PARAM a 1 b LINEAR_X r 3 16777216 0 -> 8 TooFar
+:PLACE_PARAM a 1 b LINEAR_X r 3 16777216 0 0 -> 10 Words
+:PLACE_PARAM a 1 b square_xz r 2 3 20 30 -4 -5 -> place a b r square 1 2 20 -4 3 30 -5
+:PLACE_PARAM a 1 b SQUARE_XY r 64 65 1 1 0 0 -> 8 Copies
+:PLACE_PARAM a 1 b SQUARE_XY r 3 3 16777216 16777216 0 0 -> 9 TooFar
+:PLACE_PARAM a 1 b SQUARE_XY r 3 3 1 16777216 0 0 -> 10 TooFar";
+    check(&rt, rt.alloc(), table)
 }
 
 // Number 10 takes x to y and y to -x.
 #[test]
-fn rotations_are_read(rt: HostRuntime) -> Result<(), Fail> {
-    let cases = [
-        (b":ROTM r 0 0 90".as_slice(), 10),
-        (b":ROTM r 90 0 90 90 0 0", 0),
-        (b":ROTM r 0 -1 0 1 0 0 0 0 1", 10),
-    ];
-    for (text, index) in cases {
-        match declared(rt.alloc(), text)? {
-            Ok(Declaration::Turn { name, rotation }) => {
-                assert_eq!(rt; name.bytes(), b"r".as_slice());
-                assert_eq!(rt; rotation.index(), index);
-            }
-            _ => return Err("no rotation".into()),
-        }
-    }
-    Ok(())
-}
-
-#[test]
-fn other_lines_are_read(rt: HostRuntime) -> Result<(), Fail> {
-    let alloc = rt.alloc();
-    match declared(alloc, b":P a_1 $d*2")? {
-        Ok(Declaration::Param { name, value }) => {
-            assert_eq!(rt; name.bytes(), b"a_1".as_slice());
-            assert_eq!(rt; value, Value::new(20, 1, false, false)?);
-        }
-        _ => return Err("no parameter".into()),
-    }
-    match declared(alloc, b":VOLU a sol Air")? {
-        Ok(
-            Declaration::Named {
-                name,
-                solid,
-                material,
-            },
-        ) => {
-            assert_eq!(rt; name.bytes(), b"a".as_slice());
-            assert_eq!(rt; solid.bytes(), b"sol".as_slice());
-            assert_eq!(rt; material.bytes(), b"Air".as_slice());
-        }
-        _ => return Err("no volume by name".into()),
-    }
-    match declared(alloc, b":VOLU a TRD 1 2 3 4 5 Air")? {
-        Ok(
-            Declaration::Volume {
-                name,
-                solid,
-                material,
-            },
-        ) => {
-            assert_eq!(rt; name.bytes(), b"a".as_slice());
-            assert_eq!(rt; solid.kind(), SolidKind::Trd);
-            assert_eq!(rt; material.bytes(), b"Air".as_slice());
-        }
-        _ => return Err("no volume".into()),
-    }
-    match declared(alloc, b":RAY 1 -2 3 0 0 4")? {
-        Ok(Declaration::Trace { ray }) => {
-            assert_eq!(rt; ray.o, point(1, -2, 3));
-            assert_eq!(rt; ray.d, point(0, 0, 4));
-        }
-        _ => return Err("no ray".into()),
-    }
-    Ok(())
+fn rotations(rt: HostRuntime) -> Result<(), Fail> {
+    let table = ":ROTM r 0 0 90 -> turn 10 r
+:ROTM r 90 0 90 90 0 0 -> turn 0 r
+:ROTM r 0 -1 0 1 0 0 0 0 1 -> turn 10 r
+:ROTM r 0 0 45 -> 5 NotAxis
+:ROTM r 0 0 1*mm -> 5 UnitKind
+:ROTM r 0 0 -> 5 Words
+:ROTM r 1 0 0 0 1 0 0 0 -1 -> 3 Mirror
+:ROTM r 1 0 0 0 1 0 0 0 2 -> 11 NotAxis
+:ROTM r 1 0 0 0 1 0 0 0 1*deg -> 11 UnitKind
+:ROTM r 1 0 0 0 1 0 0 0 1 0 -> 12 Words";
+    check(&rt, rt.alloc(), table)
 }
