@@ -1,15 +1,28 @@
-use crate::{ReadError, TextFault, read_text};
+use crate::{Input, MAX_TEXT, ReadError, Reader, TextFault};
 use gx_expr::{Grid, Value};
 use gx_num::{Extent, Ray, V3};
 use gx_table::FaultName::{
-    DivideByZero, Flat, Half, NotAscii, NotBuilt, OffGrid, Syntax, TooFar, TooWide, Twice,
-    UnitKind, UnknownParam, UnknownUnit,
+    DivideByZero, Flat, Half, LongText, NotAscii, NotBuilt, OffGrid, Syntax, TooFar, TooWide,
+    Twice, UnitKind, UnknownParam, UnknownUnit,
 };
+use std::alloc::Global;
 use std::test::Fail;
 
 fn millimetre() -> Result<Grid, Fail> {
     let step = Value::new(1, 1, true, false)?;
     Ok(Grid::new(&step).ok_or("a grid")?)
+}
+
+// Reads a text that comes in pieces of so many bytes.
+fn read(alloc: Global, text: &[u8], most: usize) -> Result<Result<Input, ReadError>, Fail> {
+    let mut reader = Reader::new(alloc, millimetre()?);
+    let mut rest = text;
+    while !rest.is_empty() {
+        let (piece, later) = rest.split_at(rest.len().min(most.max(1)));
+        reader.feed(piece)?;
+        rest = later;
+    }
+    Ok(reader.finish())
 }
 
 fn point(x: i64, y: i64, z: i64) -> V3 {
@@ -21,7 +34,7 @@ fn point(x: i64, y: i64, z: i64) -> V3 {
 fn a_text_gives_a_world_and_rays(rt: HostRuntime) -> Result<(), Fail> {
     let text =
         b":P half 2*cm // of x\n\n:VOLU hall BOX $half 30 16777216 Air\r\n\t:RAY -50 0 7 1 0 0\n:RAY 1*m -2 3 $half/5 0 -16777216";
-    let input = read_text(rt.alloc(), &millimetre()?, text)?;
+    let input = read(rt.alloc(), text, 7)??;
     assert!(rt; input.tree.name() == b"hall".as_slice());
     assert!(rt; input.tree.material() == b"Air".as_slice());
     let low = point(-20, -30, -16777216);
@@ -41,7 +54,6 @@ fn a_text_gives_a_world_and_rays(rt: HostRuntime) -> Result<(), Fail> {
 #[test]
 fn each_text_has_its_first_fault(rt: HostRuntime) -> Result<(), Fail> {
     let alloc = rt.alloc();
-    let grid = millimetre()?;
     let cases = [
         // the form, word by word
         ("", 0, 0, NotBuilt),
@@ -104,11 +116,43 @@ fn each_text_has_its_first_fault(rt: HostRuntime) -> Result<(), Fail> {
     ];
     for (text, line, word, name) in cases {
         let first = TextFault { line, word, name };
-        let answer = read_text(alloc, &grid, text.as_bytes());
-        assert!(rt;
-            matches!(&answer, Err(ReadError::Text(fault)) if *fault == first),
-            "{text:?}"
-        );
+        for most in [1usize, 7, 1000] {
+            let answer = read(alloc, text.as_bytes(), most)?;
+            assert!(rt;
+                matches!(&answer, Err(ReadError::Text(fault)) if *fault == first),
+                "{text:?}, {most} bytes at once"
+            );
+        }
+    }
+    Ok(())
+}
+
+// Its length is judged before its lines, and from the byte on that is one too many.
+#[test]
+fn a_text_has_a_most(rt: HostRuntime) -> Result<(), Fail> {
+    let alloc = rt.alloc();
+    let long = TextFault {
+        line: 0,
+        word: 0,
+        name: LongText,
+    };
+    let none = TextFault {
+        line: 1,
+        word: 1,
+        name: NotBuilt,
+    };
+    let lines = vec![in alloc; b'\n'; 65536]?;
+    for (more, first) in [(b"x".as_slice(), none), (b"xx".as_slice(), long)] {
+        let mut reader = Reader::new(alloc, millimetre()?);
+        reader.feed(more)?;
+        let mut count = 1usize;
+        while count < MAX_TEXT {
+            let piece = &lines[..lines.len().min(MAX_TEXT - count)];
+            reader.feed(piece)?;
+            count += piece.len();
+        }
+        let answer = reader.finish();
+        assert!(rt; matches!(&answer, Err(ReadError::Text(fault)) if *fault == first));
     }
     Ok(())
 }

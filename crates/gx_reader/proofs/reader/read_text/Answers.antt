@@ -10,7 +10,7 @@ told : (c : goal.After-finish) → Tells (answered (reading c.args.grid.now c.ar
 told c =
     let text = c.args.text.now in
     let same : read_as c.feed.new.self [] ≡ answered (reading c.args.grid.now text) =
-        c.in_ok-feed.ensures.goes [] ∙ c.new-reader.ensures (text ++ []) ∙ ap (λ bytes. answered (reading c.args.grid.now bytes)) (append-nil text) in
+    c.in_ok-feed.ensures.goes [] ∙ c.new-reader.ensures (text ++ []) ∙ ap (λ bytes. answered (reading c.args.grid.now bytes)) (append-nil text) in
     subst (λ read. Tells read c.finish.result) same c.finish.ensures
 
 pub returns-clause-ok : goal.returns-clause-ok
