@@ -5,7 +5,7 @@ use Rattle.gx_num.specs.Space.{HalfSpace}
 use Rattle.gx_num.specs.Vector4.{Vec4}
 use Rattle.gx_convex.specs.Faces.{faces_of}
 use Rattle.gx_separate.proofs.KnownPlanes.{at, minus, box}
-use Rattle.gx_common.specs.Common.{candidate_points, taken_of}
+use Rattle.gx_common.specs.Common.{candidate_points, taken_of, common_of}
 
 abbrev face : ℤ → ℤ → ℤ → ℤ → HalfSpace
 face x y z e = record { n = at x y z; e = e }
@@ -30,6 +30,12 @@ taken_known : taken_of (box (minus 5) (pos 5)) (box (pos 4) (pos 14)) ≡ Some (
     corner (pos 5) (minus 5) (minus 5) ∷ corner (pos 5) (minus 5) (minus 5) ∷ corner (pos 5) (minus 5) (minus 5) ∷ [])
 unfolding common_divisor
 taken_known = refl
+
+-- these points once each
+common_known : common_of (box (minus 5) (pos 5)) (box (pos 4) (pos 14)) ≡ Some (
+    corner (pos 5) (minus 5) (pos 5) ∷ corner (pos 5) (pos 5) (minus 5) ∷ corner (pos 5) (minus 5) (minus 5) ∷ corner (pos 4) (minus 5) (minus 5) ∷ [])
+unfolding common_divisor
+common_known = refl
 
 -- two that touch in a face: no common point is strictly inside it
 touching_known : taken_of (box (minus 5) (pos 5)) (box (pos 5) (pos 15)) ≡ None

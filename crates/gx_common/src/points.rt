@@ -23,7 +23,7 @@ impl Model for Points {
 
 impl Points {
     /// These points, at most 2^17.
-    pub fn seal(points: Vec<Hp>) -> Points
+    pub(crate) fn seal(points: Vec<Hp>) -> Points
         requires { length points.items ≤ 2 ^ 17 }
         ensures { result ≡ points.items }
     {

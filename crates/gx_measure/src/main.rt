@@ -1,14 +1,18 @@
-//! Measures hulls, the planes between them, and solids of lists of values. The words are `hulls COUNT VERTICES`,
-//! `pairs COUNT VERTICES`, `solids KIND COUNT VERTICES`, or `hostile KIND COUNT` for a list that the last test refuses.
+//! Measures hulls, the planes between them, whether they meet, and solids of lists of values. The words are
+//! `hulls COUNT VERTICES`, `pairs COUNT VERTICES`, `decide` or `show` with `COUNT LEAST MOST TIMES` or `CONTACT TIMES`,
+//! `solids KIND COUNT VERTICES`, or `hostile KIND COUNT` for a list that the last test
+//! refuses.
 #![tactic(auto)]
 
 mod hulls;
 mod lists;
+mod meets;
 mod random;
 mod solids;
 
 use gx_shapes::SolidKind;
 use gx_table::fault_text;
+use meets::Question;
 use random::Random;
 use std::alloc::Global;
 use std::{env, io};
@@ -43,6 +47,8 @@ fn measured(alloc: Global, words: &[String]) -> Option<String> {
                 "the pairs of {count} hulls of {vertices} vertices, {planes} planes"
             ).ok()
         }
+        ("decide", words) => asked(alloc, &mut random, Question::Decide, words),
+        ("show", words) => asked(alloc, &mut random, Question::Show, words),
         ("solids", [word, count, vertices]) => {
             let kind = kind_of(word.as_str())?;
             let (count, vertices) = (count.parse().ok()?, vertices.parse().ok()?);
@@ -59,6 +65,30 @@ fn measured(alloc: Global, words: &[String]) -> Option<String> {
         }
         _ => None,
     }
+}
+
+fn asked(
+    alloc: Global,
+    random: &mut Random,
+    question: Question,
+    words: &[String],
+) -> Option<String> {
+    let (hulls, times) = match words {
+        [contact, times] => (meets::contact(alloc, contact.as_str())?, times),
+        [count, least, most, times] => {
+            let (least, most) = (least.parse().ok()?, most.parse().ok()?);
+            let count = count.parse().ok()?;
+            (meets::lenses(alloc, random, count, least, most)?, times)
+        }
+        _ => return None,
+    };
+    let times = times.parse().ok()?;
+    let meeting = meets::pairs(alloc, question, &hulls, times)?;
+    format!(in alloc;
+        "{times} times the pairs of {} hulls, {meeting} meet",
+        hulls.len()
+    )
+    .ok()
 }
 
 fn kind_of(word: &str) -> Option<SolidKind> {
