@@ -1,8 +1,8 @@
 //! The hierarchy of volumes: so far a world alone.
 #![tactic(auto)]
 
-mod hierarchy;
 #[cfg(test)]
 mod tests;
+mod world;
 
-pub use hierarchy::Hierarchy;
+pub use world::World;

@@ -1,4 +1,4 @@
-use crate::Hierarchy;
+use crate::World;
 use gx_hull::{Hull, Solid};
 use gx_num::V3;
 use gx_shapes::{Figure, SolidKind};
@@ -16,7 +16,7 @@ fn a_world_has_a_name_a_solid_and_a_material(rt: HostRuntime) -> Result<(), Fail
     let solid = Solid::seal(Figure::Tet(a, b, c, d), hull);
     let name = Vec::from_slice(alloc, b"hall")?;
     let material = Vec::from_slice(alloc, b"Air")?;
-    let world = Hierarchy::new(name, solid, material);
+    let world = World::new(name, solid, material);
     assert!(rt; world.name() == b"hall".as_slice());
     assert!(rt; world.material() == b"Air".as_slice());
     assert!(rt; world.solid().kind() == SolidKind::Tet);

@@ -6,13 +6,13 @@ use std::marker::Model;
 
 /// The hierarchy: a world, with its name, its solid and its material.
 #[derive(Drop)]
-pub struct Hierarchy {
+pub struct World {
     name: Vec<u8>,
     solid: Solid,
     material: Vec<u8>,
 }
 
-impl Model for Hierarchy {
+impl Model for World {
     ghost use Rattle.gx_shapes.specs.Accepted.{IsSolid};
     ghost use Rattle.gx_tree.specs.World.{World};
 
@@ -23,13 +23,13 @@ impl Model for Hierarchy {
     ghost invariant = { λ h. IsSolid h.solid };
 }
 
-impl Hierarchy {
-    pub fn new(name: Vec<u8>, solid: Solid, material: Vec<u8>) -> Hierarchy
+impl World {
+    pub fn new(name: Vec<u8>, solid: Solid, material: Vec<u8>) -> World
         ensures { result ≡ record { name = name.items; solid = solid; material = material.items } }
     {
         // What each solid keeps is known from here on.
         let _ = solid.hull();
-        Hierarchy {
+        World {
             name,
             solid,
             material,
