@@ -21,3 +21,10 @@ pub record IsReached (volumes : List Volume) (marks : List Bool) (w : ℕ) : Typ
   pub from : ℕ
   pub marked : is_marked marks from ≡ true
   pub reached : is_reached volumes from w ≡ true
+
+-- a placement leads to the volume from a marked one of the first so many
+pub record IsLedBelow (volumes : List Volume) (marks : List Bool) (count w : ℕ) : Type 0 where
+  pub from : ℕ
+  pub below : from < count
+  pub marked : is_marked marks from ≡ true
+  pub leads : leads volumes 1 from w ≡ true

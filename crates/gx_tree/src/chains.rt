@@ -27,8 +27,8 @@ pub fn daughters(alloc: Global, volumes: &[Volume], marks: &[bool]) -> Result<Ve
     ensures led { IfOk result (λ daughters. (w : ℕ) → is_marked daughters.items w ≡ true ↔ IsLed volumes.now marks.now 1 w) }
 {
     let mut daughters = vec![in alloc; false; volumes.len()]?;
-    for (volume, &marked) in volumes.iter().zip(marks) {
-        if marked {
+    for (v, volume) in volumes.iter().enumerate() {
+        if marks[v] {
             mark(&mut daughters, volume.placements());
         }
     }

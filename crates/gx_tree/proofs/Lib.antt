@@ -1,0 +1,4 @@
+mod Descent
+mod Leads
+mod Marks
+mod Numbers
