@@ -49,9 +49,9 @@ leads-split volumes (suc m) n v w e =
 pub led_on : (volumes : List Volume) (marks now : List Bool) (n w : ℕ) → ((u : ℕ) → is_marked now u ≡ true ↔ IsLed volumes marks 1 u) → IsLed volumes now n w ↔ IsLed volumes marks (1 + n) w
 led_on volumes marks now n w daughters = (
   λ led. let before = (daughters led.from).0 led.marked in
-    record { from = before.from; marked = before.marked; leads = leads-append volumes 1 n before.from led.from w before.leads led.leads },
+      record { from = before.from; marked = before.marked; leads = leads-append volumes 1 n before.from led.from w before.leads led.leads },
   λ led. let split = leads-split volumes 1 n led.from w led.leads in
-    record { from = split.at; marked = (daughters split.at).1 (record { from = led.from; marked = led.marked; leads = split.first }); leads = split.second },
+      record { from = split.at; marked = (daughters split.at).1 (record { from = led.from; marked = led.marked; leads = split.first }); leads = split.second },
 )
 
 -- a chain of no placements stays

@@ -2,3 +2,4 @@ mod Descent
 mod Leads
 mod Marks
 mod Numbers
+mod Search

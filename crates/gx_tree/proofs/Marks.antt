@@ -1,7 +1,8 @@
 -- Marks on volumes, and the chains that lead to them.
-use Rattle.std.proofs.Common.{◌≡◌, ◌↔◌, ℕ, zero, suc, ◌+◌, ◌<◌, ◌⊎◌, inl, inr, refl, sym, ◌∙◌, ap, subst, arith, Bool, true, false, ◌||◌, nat_eq, List, [], ◌∷◌, length, slice_index_or, true≢false}
+use Rattle.std.proofs.Common.{◌≡◌, ◌↔◌, ℕ, zero, suc, ◌+◌, ◌<◌, ◌⊎◌, inl, inr, refl, sym, ◌∙◌, ap, subst, arith, Bool, true, false, ◌||◌, nat_eq, List, [], ◌∷◌, length, set, slice_index_or, true≢false, eq-eqb}
 use Rattle.std.specs.List.{list_any}
-use Rattle.std.proofs.lemmas.Bool.{cases_lt, or_cases, or_left, or_right}
+use Rattle.std.proofs.lemmas.Bool.{cases_lt, cases_eq, ne_eqb, or_cases, or_left, or_right}
+use Rattle.std.proofs.lemmas.List.{get_or-set_same, get_or-set_other}
 use Rattle.gx_tree.specs.declared.placement.Placement.{Placement}
 use Rattle.gx_tree.specs.Volume.{Volume, daughter_of}
 use Rattle.gx_tree.specs.Hierarchy.{volume_at, leads}
@@ -12,6 +13,24 @@ pub marked-below : (marks : List Bool) (v : ℕ) → is_marked marks v ≡ true 
 marked-below [] v e = absurd (true≢false (sym e))
 marked-below (m ∷ marks) zero e = omega arith
 marked-below (m ∷ marks) (suc v) e = omega (arith, marked-below marks v e)
+
+or-true : (b : Bool) → (b || true) ≡ true
+or-true true = refl
+or-true false = refl
+
+or-false : (b : Bool) → (b || false) ≡ b
+or-false true = refl
+or-false false = refl
+
+-- one more mark
+pub is_marked-set : (marks : List Bool) (v w : ℕ) → v < length marks → is_marked (set marks v true) w ≡ (is_marked marks w || nat_eq v w)
+is_marked-set marks v w h = elim (cases_eq w v) [
+  | inl same ↦
+      ap (λ (k : ℕ). is_marked (set marks v true) k) same
+      ∙ get_or-set_same marks v true false h
+      ∙ sym (ap (λ b. is_marked marks w || b) (eq-eqb v w (sym same)) ∙ or-true (is_marked marks w))
+  | inr other ↦ get_or-set_other marks v w true false other ∙ sym (ap (λ b. is_marked marks w || b) (ne_eqb v w (λ e. other (sym e))) ∙ or-false (is_marked marks w))
+]
 
 -- what is seen of one more volume, where it is marked
 pub led_more : (volumes : List Volume) (marks old now : List Bool) (i w : ℕ) → is_marked marks i ≡ true

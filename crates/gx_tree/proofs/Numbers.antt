@@ -24,11 +24,10 @@ number_passes test n v less passes =
 
 find-from : (test : ℕ → Bool) (a n v : ℕ) → a ≤ v → v < a + n → test v ≡ true → ((k : ℕ) → a ≤ k → k < v → test k ≡ false) → find test (range_with_len a n) ≡ Some v
 find-from test a zero v from below passes none = absurd (omega arith)
-find-from test a (suc n) v from below passes none = go (cases_lt a v)
-  where
-    go : (a < v) ⊎ (v ≤ a) → find test (range_with_len a (suc n)) ≡ Some v
-    go (inl less) = rw (none a (omega arith) less) (find-from test (a + 1) n v (omega arith) (omega arith) passes (λ k after less. none k (omega arith) less))
-    go (inr more) = let same : v ≡ a = omega arith in rw (ap test (sym same) ∙ passes) (ap (λ (k : ℕ). Some k) (sym same))
+find-from test a (suc n) v from below passes none = elim (cases_lt a v) [
+  | inl less ↦ rw (none a (omega arith) less) (find-from test (a + 1) n v (omega arith) (omega arith) passes (λ k after less. none k (omega arith) less))
+  | inr more ↦ let same : v ≡ a = omega arith in rw (ap test (sym same) ∙ passes) (ap (λ (k : ℕ). Some k) (sym same))
+]
 
 none-from : (test : ℕ → Bool) (a n : ℕ) → ((k : ℕ) → a ≤ k → k < a + n → test k ≡ false) → find test (range_with_len a n) ≡ None
 none-from test a zero none = refl
@@ -43,14 +42,13 @@ no_number test n none = none-from test 0 n (λ k from below. none k (omega arith
 
 none_in : (test : ℕ → Bool) (a n : ℕ) → find test (range_with_len a n) ≡ None → (k : ℕ) → a ≤ k → k < a + n → test k ≡ false
 none_in test a zero e k from below = absurd (omega arith)
-none_in test a (suc n) e k from below = go (cases_Bool (test a))
-  where
-    go : (test a ≡ true) ⊎ (test a ≡ false) → test k ≡ false
-    go (inl passes) = let found : Some a ≡ None = sym (cond-true (test a) (Some a) (find test (range_with_len (a + 1) n)) passes) ∙ e in absurd (cc)
-    go (inr fails) = elim (cases_lt a k) [
-      | inl less ↦ none_in test (a + 1) n (sym (cond-false (test a) (Some a) (find test (range_with_len (a + 1) n)) fails) ∙ e) k (omega arith) (omega arith)
-      | inr more ↦ let same : k ≡ a = omega arith in ap test same ∙ fails
-    ]
+none_in test a (suc n) e k from below = elim (cases_Bool (test a)) [
+  | inl passes ↦ let found : Some a ≡ None = sym (cond-true (test a) (Some a) (find test (range_with_len (a + 1) n)) passes) ∙ e in absurd (cc)
+  | inr fails ↦ elim (cases_lt a k) [
+    | inl less ↦ none_in test (a + 1) n (sym (cond-false (test a) (Some a) (find test (range_with_len (a + 1) n)) fails) ∙ e) k (omega arith) (omega arith)
+    | inr more ↦ let same : k ≡ a = omega arith in ap test same ∙ fails
+  ]
+]
 
 -- where none is found, none passes
 pub none_found : (test : ℕ → Bool) (n : ℕ) → find test (range_with_len 0 n) ≡ None → (k : ℕ) → k < n → test k ≡ false

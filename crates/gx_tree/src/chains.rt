@@ -1,6 +1,6 @@
 //! Chains of placements, by marks on volumes.
 
-ghost use Rattle.std.specs.Prelude.{◌≡◌, ◌↔◌, ◌||◌, ℕ, ◌<◌, nat_eq, true, length, IfOk, All};
+ghost use Rattle.std.specs.Prelude.{◌≡◌, ◌↔◌, ◌||◌, ◌++◌, [], ◌∷◌, ℕ, ◌<◌, nat_eq, true, length, set, IfOk, All, if◌then◌else◌};
 ghost use Rattle.std.specs.List.{list_any};
 ghost use Rattle.gx_tree.specs.Volume.{daughter_of};
 ghost use Rattle.gx_tree.specs.Marks.{AreInRange, is_marked, IsLed, IsReached};
@@ -55,29 +55,38 @@ pub fn after(
 }
 
 /// Marks the volumes to which some chain leads from a marked one, and those that are marked.
-pub fn reached(alloc: Global, volumes: &[Volume], marks: Vec<bool>) -> Result<Vec<bool>, NoMemory>
+pub fn reached(alloc: Global, volumes: &[Volume], marks: &[bool]) -> Result<Vec<bool>, NoMemory>
     requires range { AreInRange volumes.now }
-    requires count { length marks.items ≡ length volumes.now }
+    requires count { length marks.now ≡ length volumes.now }
     ensures count { IfOk result (λ reached. length reached.items ≡ length volumes.now) }
-    ensures reached { IfOk result (λ reached. (w : ℕ) → is_marked reached.items w ≡ true ↔ IsReached volumes.now marks.items w) }
+    ensures reached { IfOk result (λ reached. (w : ℕ) → is_marked reached.items w ≡ true ↔ IsReached volumes.now marks.now w) }
 {
-    let mut marks = marks;
+    let mut reached = vec![in alloc; false; volumes.len()]?;
     let mut found = Vec::new(alloc);
     for (v, &marked) in marks.iter().enumerate() {
         if marked {
-            found.push(v)?;
+            find(&mut reached, &mut found, v)?;
         }
     }
     let mut next = 0;
     while next < found.len() {
         for placement in volumes[found[next]].placements() {
-            let daughter = placement.volume() as usize;
-            if !marks[daughter] {
-                marks[daughter] = true;
-                found.push(daughter)?;
-            }
+            find(&mut reached, &mut found, placement.volume() as usize)?;
         }
         next += 1;
     }
-    Ok(marks)
+    Ok(reached)
+}
+
+// Marks the volume, and lists it where it wasn't marked.
+fn find(marks: &mut Vec<bool>, found: &mut Vec<usize>, v: usize) -> Result<(), NoMemory>
+    requires { v < length marks.old.items }
+    ensures marks { IfOk result (λ _. marks.new.items ≡ set marks.old.items v true) }
+    ensures found { IfOk result (λ _. found.new.items ≡ (if is_marked marks.old.items v then found.old.items else (found.old.items ++ v ∷ []))) }
+{
+    if !marks[v] {
+        marks[v] = true;
+        found.push(v)?;
+    }
+    Ok(())
 }

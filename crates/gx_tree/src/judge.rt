@@ -58,7 +58,7 @@ fn is_in_itself(alloc: Global, volumes: &[Volume], v: usize) -> Result<bool, NoM
 {
     let mut marks = vec![in alloc; false; volumes.len()]?;
     mark(&mut marks, volumes[v].placements());
-    let reached = reached(alloc, volumes, marks)?;
+    let reached = reached(alloc, volumes, &marks)?;
     Ok(reached[v])
 }
 
@@ -91,7 +91,7 @@ fn first_too_deep(alloc: Global, volumes: &[Volume], world: u32) -> Result<Optio
     let mut marks = vec![in alloc; false; volumes.len()]?;
     marks[world as usize] = true;
     let deep = after(alloc, volumes, marks, MAX_DEPTH + 1)?;
-    let reached = reached(alloc, volumes, deep)?;
+    let reached = reached(alloc, volumes, &deep)?;
     Ok(first_marked(&reached))
 }
 

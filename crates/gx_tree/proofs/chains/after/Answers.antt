@@ -11,7 +11,7 @@ loop-step-preserved c =
     let left = c.args.steps - (c.loop-step._step + 1) in
     let number : 1 + left ≡ c.args.steps - c.loop-step._step = omega arith in
     let daughters : (u : ℕ) → (is_marked now u ≡ true) ↔ IsLed volumes marks 1 u =
-        subst (λ (ms : List Bool). (u : ℕ) → (is_marked now u ≡ true) ↔ IsLed volumes ms 1 u) c.deref.ensures.value c.in_ok-marks.ensures.led in
+    subst (λ (ms : List Bool). (u : ℕ) → (is_marked now u ≡ true) ↔ IsLed volumes ms 1 u) c.deref.ensures.value c.in_ok-marks.ensures.led in
     record {
       count = c.in_ok-marks.ensures.count;
       led = λ w.
