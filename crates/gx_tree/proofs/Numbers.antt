@@ -53,3 +53,8 @@ none_in test a (suc n) e k from below = elim (cases_Bool (test a)) [
 -- where none is found, none passes
 pub none_found : (test : ℕ → Bool) (n : ℕ) → find test (range_with_len 0 n) ≡ None → (k : ℕ) → k < n → test k ≡ false
 none_found test n e k below = none_in test 0 n e k (omega arith) (omega arith)
+
+-- the same test
+pub find-same : (test other : ℕ → Bool) (ks : List ℕ) → ((k : ℕ) → test k ≡ other k) → find test ks ≡ find other ks
+find-same test other [] same = refl
+find-same test other (k ∷ ks) same = λ i. cond (same k i) (Some k) (find-same test other ks same i)

@@ -1,7 +1,9 @@
 //! The faults of volumes, by their order.
 
-ghost use Rattle.std.specs.Prelude.{◌≡◌, ◌<◌, ◌≤◌, length, find, position, IfOk, IfErr, Ok};
+ghost use Rattle.std.specs.Prelude.{◌≡◌, ◌<◌, ◌≤◌, length, find, IfOk, IfErr, Ok};
+ghost use Rattle.std.specs.List.{range_with_len};
 ghost use Rattle.gx_tree.specs.Hierarchy.{numbers};
+ghost use Rattle.gx_tree.specs.Marks.{is_marked};
 ghost use Rattle.gx_tree.specs.Limits.{IsWithinLimits};
 ghost use Rattle.gx_tree.specs.Fault as spec;
 ghost use Rattle.gx_tree.specs.Fault.{hierarchy_of, IsTreeCause};
@@ -97,8 +99,12 @@ fn first_too_deep(alloc: Global, volumes: &[Volume], world: u32) -> Result<Optio
 
 fn first_marked(marks: &[bool]) -> Option<u32>
     requires { length marks.now ≤ 4096 }
-    ensures { result ≡ position (λ marked. marked) marks.now }
+    ensures { result ≡ find (is_marked marks.now) (range_with_len 0 (length marks.now)) }
 {
-    let place = marks.iter().position(|&marked| marked)?;
-    Some(place as u32)
+    for (v, &marked) in marks.iter().enumerate() {
+        if marked {
+            return Some(v as u32);
+        }
+    }
+    None
 }
