@@ -103,7 +103,7 @@ pub placed_is : (volumes : List Volume) (placed : List Bool) (v : ℕ) → is_ma
 unfolding is_placed
 placed_is volumes placed v led = same_from_decides {P = IsLed volumes (replicate (length volumes) true) 1 v} (is_marked placed v) (list_any (λ u. leads volumes 1 u v) (numbers volumes)) (led.0, led.1) (
   λ e. let some = some_number (λ u. leads volumes 1 u v) (length volumes) e in
-    record { from = some.number; marked = all-marked (length volumes) some.number some.below; leads = some.passes },
+      record { from = some.number; marked = all-marked (length volumes) some.number some.below; leads = some.passes },
   λ l. number_passes (λ u. leads volumes 1 u v) (length volumes) l.from (leads-below volumes 0 l.from v l.leads) l.leads,
 )
 

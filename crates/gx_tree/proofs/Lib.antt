@@ -1,7 +1,9 @@
+mod Counts
 mod Descent
 mod Judged
 mod Leads
 mod Marks
 mod Numbers
+mod Ordinals
 mod Roots
 mod Search

@@ -35,8 +35,8 @@ second_root test n i (Some v) below passes some so_far =
     let b : 0 + i ≡ i = omega arith in
     let later = range_with_len (i + 1) (n - (i + 1)) in
     let split : range_with_len 0 n ≡ range_with_len 0 i ++ (i ∷ later) =
-        ap (range_with_len 0) count ∙ range-append 0 i (suc (n - (i + 1))) ∙ ap (λ k. range_with_len 0 i ++ range_with_len k (suc (n - (i + 1)))) b in
+    ap (range_with_len 0) count ∙ range-append 0 i (suc (n - (i + 1))) ∙ ap (λ k. range_with_len 0 i ++ range_with_len k (suc (n - (i + 1)))) b in
     let first : filter test (range_with_len 0 i) ≡ v ∷ [] = sym so_far in
     let roots : filter test (range_with_len 0 n) ≡ v ∷ i ∷ filter test later =
-        ap (filter test) split ∙ filter-append test (range_with_len 0 i) (i ∷ later) ∙ (λ k. first k ++ cond (passes k) (i ∷ filter test later) (filter test later)) in
+    ap (filter test) split ∙ filter-append test (range_with_len 0 i) (i ∷ later) ∙ (λ k. first k ++ cond (passes k) (i ∷ filter test later) (filter test later)) in
     ap world_from roots

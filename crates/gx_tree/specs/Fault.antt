@@ -63,9 +63,13 @@ abbrev pub first_numbered : {X Y : Type 0} → (ℕ → X → Option Y) → ℕ 
 first_numbered answer n [] = None
 first_numbered answer n (x ∷ xs) = option_or (answer n x) (first_numbered answer (n + 1) xs)
 
+-- the first fault of the placements in one mother
+abbrev pub replica_fault_in : List Volume → ℕ → Volume → Option TreeFault
+replica_fault_in volumes v mother = first_numbered (fault_of_placement volumes v mother) 0 mother.placements
+
 -- volumes in order, and each one's placements in order
 unfoldable pub replica_fault : List Volume → Option TreeFault
-replica_fault volumes = first_numbered (λ v mother. first_numbered (fault_of_placement volumes v mother) 0 mother.placements) 0 volumes
+replica_fault volumes = first_numbered (replica_fault_in volumes) 0 volumes
 
 -- no fault, or this one
 abbrev pub unless : Option TreeFault → Result (Unit {0}) TreeFault

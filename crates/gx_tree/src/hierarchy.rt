@@ -25,13 +25,13 @@ impl Model for Hierarchy {
     ghost use Rattle.std.specs.Prelude.{◌≡◌, map};
     ghost use Rattle.gx_tree.specs.Hierarchy.{Hierarchy};
     ghost use Rattle.gx_tree.specs.Fault.{IsTree};
-    ghost use Rattle.gx_tree.specs.Ends.{ends_from};
+    ghost use Rattle.gx_tree.specs.Ends.{ends_of};
 
     ghost Value = { Hierarchy };
 
     ghost view = { λ h. record { volumes = h.volumes.items; world = h.world } };
 
-    ghost invariant = { λ h. IsTree (record { volumes = h.volumes.items; world = h.world }) × (map (λ e. e.items) h.ends.items ≡ map (λ v. ends_from 0 v.placements) h.volumes.items) };
+    ghost invariant = { λ h. IsTree (record { volumes = h.volumes.items; world = h.world }) × (map (λ e. e.items) h.ends.items ≡ map (λ v. ends_of v.placements) h.volumes.items) };
 }
 
 impl Hierarchy {

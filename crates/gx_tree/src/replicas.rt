@@ -2,7 +2,7 @@ ghost use Rattle.std.specs.Prelude.{◌≡◌, ◌<◌, ◌≤◌, length, unsig
 ghost use Rattle.gx_num.specs.Vector.{IsWithin};
 ghost use Rattle.gx_tree.specs.Limits.{IsWithinLimits, IsPlaceable};
 ghost use Rattle.gx_tree.specs.Fault as spec;
-ghost use Rattle.gx_tree.specs.Fault.{fault_of_placement, fill_fault, first_numbered, halves as halves_of};
+ghost use Rattle.gx_tree.specs.Fault.{fault_of_placement, replica_fault_in, halves as halves_of};
 
 use crate::{Placement, TreeFault, Volume};
 use gx_hull::Solid;
@@ -11,6 +11,7 @@ use gx_replica::replica_fits;
 use gx_shapes::Figure;
 
 /// The first fault of a replica.
+#[tactic(auto, unfolding(crate::specs::Fault::replica_fault))]
 pub fn replica_fault(volumes: &[Volume]) -> Option<TreeFault>
     requires { IsWithinLimits volumes.now }
     ensures { result ≡ spec.replica_fault volumes.now }
@@ -29,7 +30,7 @@ fn fault_in(volumes: &[Volume], v: u32, mother: &Volume) -> Option<TreeFault>
     requires limits { IsWithinLimits volumes.now }
     requires placeable { All (IsPlaceable (length volumes.now)) mother.now.placements }
     requires few { length mother.now.placements ≤ 4096 }
-    ensures { result ≡ first_numbered (fault_of_placement volumes.now v mother.now) 0 mother.now.placements }
+    ensures { result ≡ replica_fault_in volumes.now v mother.now }
 {
     for (k, placement) in mother.placements().iter().enumerate() {
         let fault = fault_of(volumes, v, mother, k as u32, placement);

@@ -17,9 +17,9 @@ returns c =
     let deep = c.in_ok-deep.deep.items in
     let none : c.in_ok-marks.marks.items ≡ replicate n false = search rules in
     let led : (u : ℕ) → is_marked deep u ≡ true ↔ IsLed volumes (set (replicate n false) c.args.world true) (suc max_depth) u =
-        subst (λ (ms : List Bool). (u : ℕ) → is_marked deep u ≡ true ↔ IsLed volumes (set ms c.args.world true) (suc max_depth) u) none c.in_ok-deep.ensures.led in
+    subst (λ (ms : List Bool). (u : ℕ) → is_marked deep u ≡ true ↔ IsLed volumes (set ms c.args.world true) (suc max_depth) u) none c.in_ok-deep.ensures.led in
     let all : (w : ℕ) → is_marked reached w ≡ true ↔ IsReached volumes deep w =
-        subst (λ (ms : List Bool). (w : ℕ) → is_marked reached w ≡ true ↔ IsReached volumes ms w) c.deref.ensures.value c.in_ok-reached.ensures.reached in
+    subst (λ (ms : List Bool). (w : ℕ) → is_marked reached w ≡ true ↔ IsReached volumes ms w) c.deref.ensures.value c.in_ok-reached.ensures.reached in
     let same : (w : ℕ) → is_marked reached w ≡ is_too_deep volumes c.args.world w = λ w. too_deep_is volumes c.args.world deep reached w c.requires.world c.in_ok-deep.ensures.count led (all w) in
     c.first_marked.ensures
     ∙ ap (λ (ms : List Bool). find (is_marked ms) (range_with_len 0 (length ms))) c.deref-2.ensures.value

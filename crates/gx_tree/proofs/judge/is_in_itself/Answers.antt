@@ -17,8 +17,8 @@ returns c =
     let placements : c.placements.result.now ≡ (volume_at volumes c.args.v).placements = c.placements.ensures ∙ ap (λ (v : Volume). v.placements) at in
     let none : c.deref_mut.result.now ≡ replicate n false = c.deref_mut.ensures.value ∙ search rules in
     let marked : (w : ℕ) → is_marked marks w ≡ list_any (λ p. nat_eq (daughter_of p) w) (volume_at volumes c.args.v).placements =
-        λ w. c.mark.ensures w ∙ (λ i. is_marked (none i) w || list_any (λ p. nat_eq (daughter_of p) w) (placements i)) ∙ ap (λ b. b || list_any (λ p. nat_eq (daughter_of p) w) (volume_at volumes c.args.v).placements) (none-marked n w) in
+    λ w. c.mark.ensures w ∙ (λ i. is_marked (none i) w || list_any (λ p. nat_eq (daughter_of p) w) (placements i)) ∙ ap (λ b. b || list_any (λ p. nat_eq (daughter_of p) w) (volume_at volumes c.args.v).placements) (none-marked n w) in
     let same : c.deref.result.now ≡ marks = c.deref.ensures.value ∙ with_items_is c.in_ok-marks.marks marks (omega arith) in
     let all : is_marked reached c.args.v ≡ true ↔ IsReached volumes marks c.args.v =
-        subst (λ (ms : List Bool). is_marked reached c.args.v ≡ true ↔ IsReached volumes ms c.args.v) same (c.in_ok-reached.ensures.reached c.args.v) in
+    subst (λ (ms : List Bool). is_marked reached c.args.v ≡ true ↔ IsReached volumes ms c.args.v) same (c.in_ok-reached.ensures.reached c.args.v) in
     get_or_read reached _ _ (omega (arith, c.in_ok-reached.ensures.count, c.requires.volume)) c.index.ensures false ∙ in_itself_is volumes c.args.v marks reached marked all

@@ -21,7 +21,7 @@ returns-then-is_some-clause-err c =
     second_root (λ u. not (spec.is_placed volumes u)) n v c.loop-v.world (omega (arith, c.in_ok-placed.ensures.count, c.deref-placed-items.ensures.len)) nowhere (sym c.if-is_some.ensures) c.loop-v.invariant
 
 pub loop-v-preserved : goal.loop-v-preserved
-loop-v-preserved c = 
+loop-v-preserved c =
     let volumes = c.args.volumes.now in
     let n = length volumes in
     let placed = c.in_ok-placed.placed.items in
