@@ -40,3 +40,12 @@ map_more f g xs ys i x y less at so_far is =
     map-append f xs (x ∷ [])
     ∙ (λ k. so_far k ++ is k ∷ [])
     ∙ sym (ap (map g) (take_more ys i y less) ∙ map-append g (take i ys) (slice_index_or ys i y ∷ []) ∙ ap (λ z. map g (take i ys) ++ g z ∷ []) (sym at))
+
+-- ---- within the limits
+pub in_range : (n : ℕ) (ps : List Placement) → All (IsPlaceable n) ps → All IsInRange ps
+in_range n ps all = All-weaker (IsPlaceable n) IsInRange (λ p placeable. placeable.range) ps all
+
+pub few_placements : (volumes : List Volume) → IsWithinLimits volumes → (v : ℕ) (d : Volume) → v < length volumes → length (slice_index_or volumes v d).placements ≤ 4096
+few_placements volumes limits v d below =
+    let ps = (slice_index_or volumes v d).placements in
+    omega (arith, placements-few ps (in_range (length volumes) ps (limits.placeable v d below)), limits.each v d below)

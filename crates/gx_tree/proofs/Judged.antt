@@ -33,7 +33,7 @@ marked-one n v below =
     is_marked-set (replicate n false) v v (omega (arith, length-replicate n false)) ∙ or_right (is_marked (replicate n false) v) (nat_eq v v) (eq-eqb v v refl)
 
 -- a chain begins at a volume of the list
-leads-below : (volumes : List Volume) (n v w : ℕ) → leads volumes (suc n) v w ≡ true → v < length volumes
+pub leads-below : (volumes : List Volume) (n v w : ℕ) → leads volumes (suc n) v w ≡ true → v < length volumes
 unfolding leads
 leads-below volumes n v w e = elim (cases_lt v (length volumes)) [
   | inl below ↦ below

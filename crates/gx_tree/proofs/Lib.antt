@@ -1,5 +1,7 @@
+mod Cells
 mod Counts
 mod Descent
+mod Formed
 mod Judged
 mod Leads
 mod Marks

@@ -18,6 +18,7 @@ use std::alloc::Global;
 const MAX_DEPTH: u32 = 32;
 
 /// The number of the world, where the volumes make a hierarchy.
+#[tactic(auto, unfolding(crate::specs::Fault::hierarchy_of))]
 pub fn world_of(alloc: Global, volumes: &[Volume]) -> Result<u32, TreeError>
     requires { IsWithinLimits volumes.now }
     ensures ok { IfOk result (λ world. hierarchy_of volumes.now ≡ Ok (record { volumes = volumes.now; world = world })) }
