@@ -7,5 +7,7 @@ mod Leads
 mod Marks
 mod Numbers
 mod Ordinals
+mod Placed
 mod Roots
 mod Search
+mod Tree
