@@ -17,12 +17,12 @@ use gx_navigator::world_span;
 use gx_num::Ray;
 use gx_print::{print_ray, print_row};
 use gx_reader::Input;
-use gx_tree::Hierarchy;
+use gx_tree::World;
 
 // Writes a ray's head, and the row of a span.
 #[tactic(auto, using(gx_io::proofs::Joined::joined))]
 fn print_span<K: Sink>(
-    tree: &Hierarchy,
+    tree: &World,
     number: u32,
     span: &Option<Span>,
     sink: &mut K,
@@ -39,7 +39,7 @@ fn print_span<K: Sink>(
 
 // Writes the head and the report of the n-th ray.
 fn print_report<K: Sink>(
-    tree: &Hierarchy,
+    tree: &World,
     number: u32,
     ray: &Ray,
     sink: &mut K,

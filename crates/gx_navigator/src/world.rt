@@ -7,11 +7,11 @@ ghost use Rattle.gx_navigator.specs.Rows.{rows_of};
 
 use gx_clip::{Span, clip};
 use gx_num::Ray;
-use gx_tree::Hierarchy;
+use gx_tree::World;
 
 /// The open interval of all parameters above 0 at which the ray is inside the world; nothing where there is none.
 /// In a world alone its row is the ray's report.
-pub fn world_span(tree: &Hierarchy, ray: &Ray) -> Option<Span>
+pub fn world_span(tree: &World, ray: &Ray) -> Option<Span>
     requires origin { IsWithin (2 ^ 61) ray.now.o }
     requires direction { IsWithin (2 ^ 61) ray.now.d }
     requires moves { HasDirection ray.now }

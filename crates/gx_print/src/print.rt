@@ -10,7 +10,7 @@ use gx_fraction::Frac;
 use gx_io::{Failed, Sink, write_all};
 use gx_reader::TextFault;
 use gx_table::fault_text;
-use gx_tree::Hierarchy;
+use gx_tree::World;
 use itoa::{Buffer, Integer};
 
 /// Writes the usage line.
@@ -34,7 +34,7 @@ pub fn print_ray<K: Sink>(number: u32, sink: &mut K) -> Result<(), Failed>
 
 /// Writes the row of a span in a world alone.
 #[tactic(auto, using(gx_io::proofs::Joined::joined))]
-pub fn print_row<K: Sink>(tree: &Hierarchy, span: &Span, sink: &mut K) -> Result<(), Failed>
+pub fn print_row<K: Sink>(tree: &World, span: &Span, sink: &mut K) -> Result<(), Failed>
     ensures bytes { Writes (K.written sink.old) (K.written sink.new) (row_text tree.now (row_of span.now.from span.now.to [])) result }
     ensures cause { HasCause (K.faults sink.old) (K.faults sink.new) result }
 {

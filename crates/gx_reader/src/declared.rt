@@ -14,7 +14,7 @@ use gx_expr::{Grid, ParamFault, Params, Value};
 use gx_num::{Ray, V3};
 use gx_table::FaultName;
 use gx_text::Line;
-use gx_tree::Hierarchy;
+use gx_tree::World;
 use std::alloc::Global;
 use std::marker::Model;
 
@@ -32,7 +32,7 @@ pub struct Declared {
     grid: Grid,
     params: Params,
     param_lines: u32,
-    world: Option<Hierarchy>,
+    world: Option<World>,
     rays: Rays,
 }
 

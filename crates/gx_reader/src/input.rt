@@ -3,7 +3,7 @@ ghost use Rattle.gx_reader.specs.Rays.{IsTraceable};
 ghost use Rattle.gx_reader.specs.declared.input.TheConstants.{MAX_RAYS};
 
 use gx_num::Ray;
-use gx_tree::Hierarchy;
+use gx_tree::World;
 use std::alloc::{AllocFailed, Global};
 use std::marker::Model;
 
@@ -68,6 +68,6 @@ impl Rays {
 /// The hierarchy and the rays that a text declares.
 #[derive(Drop)]
 pub struct Input {
-    pub tree: Hierarchy,
+    pub tree: World,
     pub rays: Rays,
 }

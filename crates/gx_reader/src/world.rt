@@ -14,7 +14,7 @@ use gx_shapes::SolidFault;
 use gx_solids::solid;
 use gx_table::FaultName;
 use gx_text::Line;
-use gx_tree::Hierarchy;
+use gx_tree::World;
 use std::alloc::{AllocError, Global};
 
 /// What the words of a volume's line are, after its tag.
@@ -36,7 +36,7 @@ pub fn world_of(
     line: &Line,
     kind: WorldKind,
     givens: &[Given],
-) -> Result<Hierarchy, Refusal>
+) -> Result<World, Refusal>
     requires count { length givens.now ≡ value_count_of kind + 3 }
     ensures ok { IfOk result (λ world. world_of_words line.now.words kind givens.now ≡ Ok world) }
     ensures err { IfErr result (IsCauseAt (world_of_words line.now.words kind givens.now)) }
@@ -63,13 +63,13 @@ fn extents(alloc: Global, kind: WorldKind, givens: &[Given]) -> Result<Vec<i64>,
 }
 
 // The world with its name and its material.
-fn named(alloc: Global, line: &Line, kind: WorldKind, solid: Solid) -> Result<Hierarchy, Refusal>
+fn named(alloc: Global, line: &Line, kind: WorldKind, solid: Solid) -> Result<World, Refusal>
     ensures ok { IfOk result (λ world. world_made line.now.words kind (Ok solid) ≡ Ok world) }
     ensures err { IfErr result (IsCauseAt (world_made line.now.words kind (Ok solid))) }
 {
     let name = Vec::from_slice(alloc, word_of(line, 2))?;
     let material = Vec::from_slice(alloc, word_of(line, kind.value_count() + 4))?;
-    Ok(Hierarchy::new(name, solid, material))
+    Ok(World::new(name, solid, material))
 }
 
 fn at_kind(name: FaultName) -> Refusal

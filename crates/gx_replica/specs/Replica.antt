@@ -1,5 +1,6 @@
 -- Equal cells side by side, which fill a mother along one axis.
-use Rattle.std.specs.Prelude.{◌≡◌, ◌≢◌, ℕ, ℤ, ◌-◌, ◌<ℤ◌, ◌+ℤ◌, ◌*ℤ◌, neg_ℤ, pos, nat_eq, int_div, if◌then◌else◌}
+use Rattle.std.specs.Prelude.{Bool, ◌&&◌, ◌||◌, ℕ, ℤ, ◌-◌, ◌+ℤ◌, ◌*ℤ◌, neg_ℤ, pos, nat_eq, int_lt, int_div, if◌then◌else◌}
+use Rattle.std.specs.Ordering.{int_eq}
 use Rattle.gx_num.specs.declared.vector.V3.{V3}
 
 -- the coordinate on an axis, 0 to 2
@@ -14,14 +15,21 @@ along axis at = record {
   z = if nat_eq axis 2 then at else pos 0;
 }
 
--- cells of the width fill the mother along the axis, where both are given by their half-lengths; so the width is even
-pub record Fills (mother cell : V3) (axis count : ℕ) (width : ℤ) : Type 0 where
-  pub positive : pos 0 <ℤ width
-  pub half : pos 2 *ℤ coordinate axis cell ≡ width
-  pub full : pos count *ℤ width ≡ pos 2 *ℤ coordinate axis mother
-  pub same_x : axis ≢ 0 → cell.x ≡ mother.x
-  pub same_y : axis ≢ 1 → cell.y ≡ mother.y
-  pub same_z : axis ≢ 2 → cell.z ≡ mother.z
+-- so many of the width are the length along the axis
+abbrev pub is_long : ℕ → V3 → ℕ → ℤ → Bool
+is_long axis half count width = int_eq (pos count *ℤ width) (pos 2 *ℤ coordinate axis half)
+
+-- the same half-lengths across the axis
+abbrev pub is_alike_across : ℕ → V3 → V3 → Bool
+is_alike_across axis a b = (nat_eq axis 0 || int_eq a.x b.x) && (nat_eq axis 1 || int_eq a.y b.y) && (nat_eq axis 2 || int_eq a.z b.z)
+
+-- the cell has the width, which is above 0, and so many of them are the mother's length; so the width is even
+abbrev pub fills_along : V3 → V3 → ℕ → ℕ → ℤ → Bool
+fills_along mother cell axis count width = int_lt (pos 0) width && is_long axis mother count width && is_long axis cell 1 width
+
+-- cells of the width fill the mother along the axis, where both are given by their half-lengths
+abbrev pub fills : V3 → V3 → ℕ → ℕ → ℤ → Bool
+fills mother cell axis count width = fills_along mother cell axis count width && is_alike_across axis cell mother
 
 -- the centre of copy i: the first is half of all but one width before the mother's centre, and the width is even
 abbrev pub centre_of : ℕ → ℕ → ℤ → ℕ → V3

@@ -1,6 +1,7 @@
-ghost use Rattle.std.specs.Prelude.{◌≡◌, ◌+◌, ◌-◌, ◌*◌, ◌*ℤ◌, ◌%◌, ◌<◌, ◌≤◌, ◌↔◌, pos, unsigned_abs, IsTrue};
+ghost use Rattle.std.specs.Prelude.{◌≡◌, ◌+◌, ◌-◌, ◌*◌, ◌*ℤ◌, ◌%◌, ◌<◌, ◌≤◌, pos, unsigned_abs};
 ghost use Rattle.gx_num.specs.Vector.{IsWithin};
-ghost use Rattle.gx_replica.specs.Replica.{coordinate, along, Fills, centre_of};
+ghost use Rattle.gx_replica.specs.Replica as spec;
+ghost use Rattle.gx_replica.specs.Replica.{coordinate, along, is_alike_across, fills_along, fills, centre_of};
 
 use gx_num::{M, V3};
 
@@ -12,27 +13,9 @@ pub fn replica_fits(mother: V3, cell: V3, axis: u8, count: u32, width: i64) -> b
     requires mother { IsWithin (unsigned_abs M) mother }
     requires cell { IsWithin (unsigned_abs M) cell }
     requires width { unsigned_abs width ≤ 2 * unsigned_abs M }
-    ensures { IsTrue result ↔ Fills mother cell axis count width }
+    ensures { result ≡ fills mother cell axis count width }
 {
-    if width <= 0 {
-        return false;
-    }
-    if 2 * on_axis(cell, axis) != width {
-        return false;
-    }
-    if times(count, width) != 2 * on_axis(mother, axis) {
-        return false;
-    }
-    if axis != 0 && cell.x != mother.x {
-        return false;
-    }
-    if axis != 1 && cell.y != mother.y {
-        return false;
-    }
-    if axis != 2 && cell.z != mother.z {
-        return false;
-    }
-    true
+    fit_along(mother, cell, axis, count, width) && are_alike_across(axis, cell, mother)
 }
 
 /// The centre of a copy in the mother.
@@ -55,6 +38,34 @@ fn times(n: u32, width: i64) -> i64
     ensures bound { unsigned_abs result ≤ 4096 * (2 * unsigned_abs M) }
 {
     i64::from(n) * width
+}
+
+// The cell has the width, which is above 0, and so many of them are the mother's length.
+fn fit_along(mother: V3, cell: V3, axis: u8, count: u32, width: i64) -> bool
+    requires count { count ≤ 4096 }
+    requires mother { IsWithin (unsigned_abs M) mother }
+    requires cell { IsWithin (unsigned_abs M) cell }
+    requires width { unsigned_abs width ≤ 2 * unsigned_abs M }
+    ensures { result ≡ fills_along mother cell axis count width }
+{
+    width > 0 && is_long(mother, axis, count, width) && is_long(cell, axis, 1, width)
+}
+
+// So many of the width are the length along the axis.
+fn is_long(half: V3, axis: u8, count: u32, width: i64) -> bool
+    requires count { count ≤ 4096 }
+    requires half { IsWithin (unsigned_abs M) half }
+    requires width { unsigned_abs width ≤ 2 * unsigned_abs M }
+    ensures { result ≡ spec.is_long axis half count width }
+{
+    times(count, width) == 2 * on_axis(half, axis)
+}
+
+// The half-lengths across the axis are the same.
+fn are_alike_across(axis: u8, a: V3, b: V3) -> bool
+    ensures { result ≡ is_alike_across axis a b }
+{
+    (axis == 0 || a.x == b.x) && (axis == 1 || a.y == b.y) && (axis == 2 || a.z == b.z)
 }
 
 fn on_axis(v: V3, axis: u8) -> i64

@@ -1,1 +1,9 @@
+pub mod Deepest
+pub mod Ends
+pub mod Fault
+pub mod Hierarchy
+pub mod Laws
+pub mod Limits
+pub mod Marks
+pub mod Volume
 pub mod World

@@ -1,8 +1,23 @@
-//! The hierarchy of volumes: so far a world alone.
+//! The hierarchy of volumes; beside it a world alone.
 #![tactic(auto)]
 
+mod chains;
+mod ends;
+mod fault;
 mod hierarchy;
+mod instance;
+mod judge;
+pub mod laws;
+mod placement;
+mod replicas;
 #[cfg(test)]
 mod tests;
+mod volume;
+mod world;
 
+pub use fault::{TreeError, TreeFault};
 pub use hierarchy::Hierarchy;
+pub use instance::Instance;
+pub use placement::Placement;
+pub use volume::Volume;
+pub use world::World;

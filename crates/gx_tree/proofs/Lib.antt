@@ -1,0 +1,13 @@
+mod Cells
+mod Counts
+mod Descent
+mod Formed
+mod Judged
+mod Leads
+mod Marks
+mod Numbers
+mod Ordinals
+mod Placed
+mod Roots
+mod Search
+mod Tree
