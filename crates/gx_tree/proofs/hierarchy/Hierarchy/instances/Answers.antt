@@ -1,4 +1,4 @@
-use Rattle.std.proofs.Common.{◌≡◌, ◌≤◌, ◌-◌, ℕ, List, length, map, slice_index, sym, ◌∙◌, ap, subst, arith}
+use Rattle.std.proofs.Common.{◌≡◌, ◌≤◌, ◌-◌, ℕ, List, [], length, map, slice_index, sym, ◌∙◌, ap, subst, arith}
 use Rattle.gx_tree.specs.Volume.{Volume, instances_in}
 use Rattle.gx_tree.specs.Hierarchy.{Hierarchy, volume_at, instances}
 use Rattle.gx_tree.specs.Ends.{ends_of}
@@ -20,4 +20,4 @@ returns-clause-few c =
     let h = c.args.self.now in
     let tree = subst IsTree c.self.view_is c.self.invariant.0 in
     let value : c.count.result ≡ length (instances h c.args.v) = returns-clause-value c in
-    omega (arith, value, length-instances_in (volume_at h.volumes c.args.v).placements, tree.limits.each c.args.v _ c.requires)
+    omega (arith, value, length-instances_in (volume_at h.volumes c.args.v).placements, tree.limits.each c.args.v (volume_at [] 0) c.requires)
