@@ -1,19 +1,17 @@
 -- Counts of placements and of instances.
-use Rattle.std.proofs.Common.{◌≡◌, ℕ, zero, suc, ◌+◌, ◌*◌, ◌<◌, ◌≤◌, refl, sym, ◌∙◌, ap, subst, arith, List, [], ◌∷◌, ◌++◌, length, take, map, slice_index_or, All}
-use Rattle.std.specs.Prelude.{sum_by, flat_map}
+use Rattle.std.proofs.Common.{◌≡◌, ℕ, ◌+◌, ◌<◌, ◌≤◌, sym, ◌∙◌, ap, arith, List, [], ◌∷◌, ◌++◌, length, take, map, slice_index_or, All}
+use Rattle.std.specs.Prelude.{sum_by}
 use Rattle.std.specs.List.{range_with_len}
 use Rattle.std.proofs.Math.Nat.{mul-le-mul}
 use Rattle.std.proofs.lemmas.List.{take_more, map-append}
 use Rattle.std.proofs.lemmas.List.Elements.{All-head, All-tail, All-weaker}
-use Rattle.std.proofs.lemmas.List.Concat.{length-flat_map}
-use Rattle.std.proofs.lemmas.List.FromFn.{length-map-range_with_len, map-range_with_len_more}
+use Rattle.std.proofs.lemmas.List.FromFn.{map-range_with_len_more}
 use Rattle.std.proofs.lemmas.List.Sums.{sum_by-cons, sum_by_more}
 use Rattle.gx_tree.specs.declared.placement.Placement.{Placement}
 use Rattle.gx_tree.specs.declared.placement.Placement.TheVariants.{Single, Replica, Linear, Square}
-use Rattle.gx_tree.specs.declared.instance.Instance.{Instance}
-use Rattle.gx_tree.specs.Volume.{Volume, copies_of, instance_of, instances_of, instances_in}
+use Rattle.gx_tree.specs.Volume.{Volume, copies_of}
 use Rattle.gx_tree.specs.Ends.{start_of}
-use Rattle.gx_tree.specs.Limits.{IsInRange, IsPlaceable, IsWithinLimits, instance_count}
+use Rattle.gx_tree.specs.Limits.{IsInRange, IsPlaceable, IsWithinLimits}
 
 -- each placement stands for an instance
 pub some_copies : (p : Placement) → IsInRange p → 1 ≤ copies_of p

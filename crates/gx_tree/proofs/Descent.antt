@@ -7,9 +7,8 @@ use Rattle.std.proofs.lemmas.List.Elements.{All-nil, All-cons, All-head, All-tai
 use Rattle.gx_num.specs.Vector4.{Vec4}
 use Rattle.gx_tree.specs.declared.placement.Placement.{Placement}
 use Rattle.gx_tree.specs.declared.instance.Instance.{Instance}
-use Rattle.gx_tree.specs.Volume.{Volume, daughter_of, copies_of, instance_of, instances_of, instances_in}
+use Rattle.gx_tree.specs.Volume.{daughter_of, copies_of, instance_of, instances_of, instances_in}
 use Rattle.gx_tree.specs.Hierarchy.{Hierarchy, volume_at, instances, leads, max_depth}
-use Rattle.gx_tree.specs.Fault.{IsTree}
 use Rattle.gx_tree.specs.Deepest.{Daughter, first_from, first_daughter, local_of, is_inside_daughter, descend, IsDeepest}
 use Rattle.gx_tree.specs.Laws.{DescentEnds, OneDeepest}
 

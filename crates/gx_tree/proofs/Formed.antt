@@ -1,5 +1,5 @@
 -- What is known of volumes that make a hierarchy, and why others make none.
-use Rattle.std.proofs.Common.{◌≡◌, ℕ, zero, suc, ◌+◌, ◌<◌, ◌≤◌, refl, sym, ◌∙◌, ap, subst, arith, Bool, true, false, not, ◌&&◌, cond, List, [], ◌∷◌, length, filter, find, Option, None, Some, Result, Ok, Err, All, true≢false, nat_eq, eqb-true}
+use Rattle.std.proofs.Common.{◌≡◌, ℕ, zero, suc, ◌<◌, refl, sym, ◌∙◌, ap, subst, arith, true, false, not, ◌&&◌, List, [], ◌∷◌, length, filter, find, Option, None, Some, Result, Ok, Err, All, true≢false, nat_eq, eqb-true}
 use Rattle.std.specs.Prelude.{option_map}
 use Rattle.std.specs.List.{range_with_len}
 use Rattle.std.proofs.lemmas.Bool.{and_from, false_from_ne_true}

@@ -1,7 +1,7 @@
 -- What marks on volumes say of the faults.
-use Rattle.std.proofs.Common.{◌≡◌, ◌↔◌, ℕ, zero, suc, ◌+◌, ◌*◌, ◌<◌, ◌≤◌, inl, inr, refl, sym, ◌∙◌, ap, subst, arith, Bool, true, false, ◌&&◌, ◌||◌, nat_eq, List, [], ◌∷◌, length, set, replicate, slice_index_or, eqb-true, eq-eqb, true≢false}
+use Rattle.std.proofs.Common.{◌≡◌, ◌↔◌, ℕ, zero, suc, ◌+◌, ◌*◌, ◌<◌, inl, inr, refl, sym, ◌∙◌, ap, subst, arith, Bool, true, false, ◌&&◌, ◌||◌, nat_eq, List, length, set, replicate, eqb-true, eq-eqb, true≢false}
 use Rattle.std.specs.List.{list_any}
-use Rattle.std.proofs.lemmas.Bool.{cases_lt, cases_Bool, and_parts, and_from, or_cases, or_right}
+use Rattle.std.proofs.lemmas.Bool.{cases_lt, and_parts, and_from, or_right}
 use Rattle.std.proofs.Math.Nat.{mul-suc, suc-mul}
 use Rattle.std.proofs.lemmas.Bool.Decides.{same_from_decides}
 use Rattle.std.proofs.lemmas.List.{get_or-replicate, get_or_past, length-replicate}
@@ -12,8 +12,8 @@ use Rattle.gx_tree.specs.Hierarchy.{volume_at, numbers, leads, is_reached, max_d
 use Rattle.gx_tree.specs.Fault.{is_in_itself, is_placed, is_too_deep}
 use Rattle.gx_tree.specs.Marks.{is_marked, IsLed, IsReached}
 use Rattle.gx_tree.proofs.Marks.{marked-below, is_marked-set}
-use Rattle.gx_tree.proofs.Numbers.{Passes, some_number, number_passes}
-use Rattle.gx_tree.proofs.Leads.{leads-itself, leads-append, IsSplit, leads-split}
+use Rattle.gx_tree.proofs.Numbers.{some_number, number_passes}
+use Rattle.gx_tree.proofs.Leads.{leads-itself, leads-append, leads-split}
 
 pub none-marked : (n v : ℕ) → is_marked (replicate n false) v ≡ false
 none-marked zero v = refl

@@ -1,9 +1,7 @@
 -- Chains of placements, joined and taken apart.
-use Rattle.std.proofs.Common.{◌≡◌, ◌↔◌, ℕ, zero, suc, ◌+◌, ◌*◌, ◌<◌, refl, sym, ◌∙◌, ap, subst, arith, Bool, true, false, nat_eq, List, eqb-true, eq-eqb}
-use Rattle.std.specs.Prelude.{Any}
+use Rattle.std.proofs.Common.{◌≡◌, ◌↔◌, ℕ, zero, suc, ◌+◌, refl, subst, arith, Bool, true, List, eqb-true, eq-eqb}
 use Rattle.std.specs.List.{list_any}
 use Rattle.std.proofs.lemmas.List.Folds.{Any-from_list_any, list_any-from_Any}
-use Rattle.gx_tree.specs.declared.placement.Placement.{Placement}
 use Rattle.gx_tree.specs.Volume.{Volume, daughter_of}
 use Rattle.gx_tree.specs.Hierarchy.{volume_at, leads}
 use Rattle.gx_tree.specs.Marks.{is_marked, IsLed}

@@ -1,12 +1,11 @@
 -- Marks on volumes, and the chains that lead to them.
-use Rattle.std.proofs.Common.{◌≡◌, ◌↔◌, ℕ, zero, suc, ◌+◌, ◌<◌, ◌⊎◌, inl, inr, refl, sym, ◌∙◌, ap, subst, arith, Bool, true, false, ◌||◌, nat_eq, List, [], ◌∷◌, length, set, slice_index_or, true≢false, eq-eqb}
+use Rattle.std.proofs.Common.{◌≡◌, ◌↔◌, ℕ, zero, suc, ◌+◌, ◌<◌, inl, inr, refl, sym, ◌∙◌, ap, subst, arith, Bool, true, false, ◌||◌, nat_eq, List, [], ◌∷◌, length, set, true≢false, eq-eqb}
 use Rattle.std.specs.List.{list_any}
 use Rattle.std.proofs.lemmas.Bool.{cases_lt, cases_eq, ne_eqb, or_cases, or_left, or_right}
 use Rattle.std.proofs.lemmas.List.{get_or-set_same, get_or-set_other}
-use Rattle.gx_tree.specs.declared.placement.Placement.{Placement}
 use Rattle.gx_tree.specs.Volume.{Volume, daughter_of}
 use Rattle.gx_tree.specs.Hierarchy.{volume_at, leads}
-use Rattle.gx_tree.specs.Marks.{is_marked, IsLed, IsLedBelow}
+use Rattle.gx_tree.specs.Marks.{is_marked, IsLedBelow}
 
 -- only volumes of the list are marked
 pub marked-below : (marks : List Bool) (v : ℕ) → is_marked marks v ≡ true → v < length marks
@@ -68,11 +67,4 @@ led_past volumes marks i w unmarked so_far = (
         let same : led.from ≡ i = omega (arith, led.below) in
         absurd (true≢false (sym led.marked ∙ ap (is_marked marks) same ∙ unmarked))
   ],
-)
-
--- at the end of the list
-pub led_all : (volumes : List Volume) (marks : List Bool) (i w : ℕ) {P : Type 0} → length marks ≡ i → P ↔ IsLedBelow volumes marks i w → P ↔ IsLed volumes marks 1 w
-led_all volumes marks i w count so_far = (
-  λ h. let led = so_far.0 h in record { from = led.from; marked = led.marked; leads = led.leads },
-  λ led. so_far.1 (record { from = led.from; below = omega (arith, marked-below marks led.from led.marked); marked = led.marked; leads = led.leads }),
 )

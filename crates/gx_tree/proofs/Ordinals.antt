@@ -1,7 +1,6 @@
 -- An instance by its ordinal: her placement by a search over running counts, and her number among its instances.
-use Rattle.std.proofs.Common.{◌≡◌, ℕ, zero, suc, ◌+◌, ◌-◌, ◌<◌, ◌≤◌, inl, inr, refl, sym, ◌∙◌, ap, subst, arith, Bool, true, false, leb, List, [], ◌∷◌, length, take, map, slice_index, slice_index_or, slice_get, Some, All, true≢false, leb-true}
+use Rattle.std.proofs.Common.{◌≡◌, ℕ, zero, suc, ◌+◌, ◌-◌, ◌<◌, ◌≤◌, inl, inr, refl, sym, ◌∙◌, ap, arith, true, false, leb, List, [], ◌∷◌, length, take, slice_index, slice_index_or, slice_get, Some, leb-true}
 use Rattle.std.specs.Prelude.{sum_by, flat_map}
-use Rattle.std.specs.List.{range_with_len, AllWithin}
 use Rattle.std.specs.List.Sorted.{IsNonDecreasingBy, IsPartitionPoint}
 use Rattle.std.proofs.lemmas.Bool.{cases_lt, leb-false}
 use Rattle.std.proofs.lemmas.List.{length-take-le, get_or-take, take_all}

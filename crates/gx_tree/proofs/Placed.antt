@@ -1,12 +1,11 @@
 -- The instances of a hierarchy: their volumes, rotations and offsets.
-use Rattle.std.proofs.Common.{◌≡◌, ℕ, zero, suc, ◌+◌, ◌*◌, ◌/◌, ◌%◌, ◌<◌, ◌≤◌, inl, inr, ℤ, pos, unsigned_abs, Bool, true, false, cond, nat_eq, nat_lt, refl, sym, ◌∙◌, ap, subst, arith, List, [], ◌∷◌, length, map, slice_index_or, All, Option, None, Some, true≢false}
-use Rattle.std.specs.Prelude.{IfSome}
+use Rattle.std.proofs.Common.{◌≡◌, ℕ, ◌+◌, ◌/◌, ◌%◌, ◌<◌, ◌≤◌, inl, inr, ℤ, pos, unsigned_abs, Bool, true, false, cond, nat_eq, nat_lt, refl, sym, ap, subst, arith, List, [], ◌∷◌, length, slice_index_or, All, Option, None, Some}
 use Rattle.std.specs.List.{range_with_len}
 use Rattle.std.specs.Option.{option_or}
 use Rattle.std.proofs.Math.Nat.{div-lt_iff_lt-mul, mul_comm}
-use Rattle.std.proofs.lemmas.Bool.{cond_both, cases_lt, cases_Bool}
-use Rattle.std.proofs.lemmas.List.{get_or_past, get_or_default}
-use Rattle.std.proofs.lemmas.List.Elements.{All-nil, All-cons, All-head, All-tail, All-append, All-map, All-weaker, All-get_or}
+use Rattle.std.proofs.lemmas.Bool.{cond_both, cases_lt}
+use Rattle.std.proofs.lemmas.List.{get_or_past}
+use Rattle.std.proofs.lemmas.List.Elements.{All-nil, All-cons, All-head, All-tail, All-append, All-map}
 use Rattle.std.proofs.lemmas.List.FromFn.{length-range_with_len, get_or-range_with_len}
 use Rattle.gx_num.specs.declared.vector.V3.{V3}
 use Rattle.gx_num.specs.declared.vector.TheConstants.{M}
@@ -15,16 +14,14 @@ use Rattle.gx_shapes.specs.declared.figure.Figure.{Figure}
 use Rattle.gx_shapes.specs.declared.figure.Figure.TheVariants.{Cuboid, Trd, Tet, Extruded, Tessellated}
 use Rattle.gx_shapes.specs.Accepted.{IsSolid}
 use Rattle.gx_shapes.proofs.Given.{given}
-use Rattle.gx_rotation.specs.Rotation.{matrix_of}
-use Rattle.gx_replica.specs.Replica.{fills, centre_of}
+use Rattle.gx_replica.specs.Replica.{fills}
 use Rattle.gx_param.specs.Param.{place, linear, square}
 use Rattle.gx_tree.specs.declared.placement.Placement.{Placement}
 use Rattle.gx_tree.specs.declared.placement.Placement.TheVariants.{Single, Replica, Linear, Square}
-use Rattle.gx_tree.specs.declared.instance.Instance.{Instance}
 use Rattle.gx_tree.specs.declared.fault.TreeFault.TheVariants.{ReplicaMixed, ReplicaFill}
-use Rattle.gx_tree.specs.Volume.{Volume, daughter_of, copies_of, rotation_of, offset_of, instance_of, instances_of, instances_in}
+use Rattle.gx_tree.specs.Volume.{Volume, copies_of, rotation_of, offset_of, instance_of, instances_of, instances_in}
 use Rattle.gx_tree.specs.Hierarchy.{Hierarchy, volume_at, instances, IsRotation, IsInstance}
-use Rattle.gx_tree.specs.Limits.{AreCopies, IsRow, IsInRange, IsPlaceable, IsWithinLimits}
+use Rattle.gx_tree.specs.Limits.{IsInRange, IsPlaceable, IsWithinLimits}
 use Rattle.gx_tree.specs.Ends.{IsEven}
 use Rattle.gx_tree.specs.Fault.{halves, fill_fault, fault_of_placement, first_numbered, replica_fault_in, replica_fault}
 use Rattle.gx_tree.proofs.Cells.{centre-within, width-even}

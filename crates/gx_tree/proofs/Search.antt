@@ -1,7 +1,6 @@
 -- The search for all volumes that are reached from marked ones.
-use Rattle.std.proofs.Common.{◌≡◌, ◌↔◌, ℕ, zero, suc, ◌+◌, ◌<◌, ◌≤◌, ◌⊎◌, inl, inr, refl, sym, ◌∙◌, ap, subst, arith, Bool, true, false, ◌||◌, cond, nat_eq, List, [], ◌∷◌, ◌++◌, length, set, take, slice_index, slice_index_or, All, eqb-true, eq-eqb, true≢false}
-use Rattle.std.specs.Prelude.{Contains, count_by, if◌then◌else◌}
-use Rattle.std.specs.List.{list_any}
+use Rattle.std.proofs.Common.{◌≡◌, ◌↔◌, ℕ, zero, suc, ◌+◌, ◌<◌, ◌≤◌, inl, inr, refl, sym, ◌∙◌, ap, subst, arith, Bool, true, false, cond, nat_eq, List, [], ◌∷◌, ◌++◌, length, set, take, slice_index, slice_index_or, eqb-true, eq-eqb}
+use Rattle.std.specs.Prelude.{Contains, if◌then◌else◌}
 use Rattle.std.proofs.lemmas.Bool.{cases_lt, cases_Bool, or_cases, or_left, or_right}
 use Rattle.std.proofs.lemmas.List.{length-set, length_push, get_or_append_left, get_or-append-add, get_or_default, take_all}
 use Rattle.std.proofs.lemmas.List.Sums.{sum_by-set, count_by-le-length}
@@ -13,7 +12,7 @@ use Rattle.gx_tree.specs.Hierarchy.{volume_at, leads, is_reached}
 use Rattle.gx_tree.specs.Marks.{AreInRange, is_marked, IsReached, IsNear, IsSearch, AreStill, AreMarked, AreClosed, IsVisit}
 use Rattle.gx_tree.proofs.Marks.{is_marked-set}
 use Rattle.gx_tree.proofs.Leads.{leads-itself, leads-append}
-use Rattle.gx_tree.proofs.Numbers.{Passes, some_number, number_passes}
+use Rattle.gx_tree.proofs.Numbers.{some_number, number_passes}
 
 set-marked : (marks : List Bool) (v : ℕ) → is_marked marks v ≡ true → set marks v true ≡ marks
 set-marked [] v e = refl
@@ -71,12 +70,6 @@ module _ (volumes : List Volume) (first marks : List Bool) (found : List ℕ) (v
     | inl old ↦ rw (set-marked marks v old, old) search
     | inr new ↦ rw new (new_one new near)
   ]
-
-  pub listed_below : length found ≤ length volumes
-  listed_below = omega (arith, search.once, search.count, count_by-le-length (λ m. m) marks)
-
-  pub index_below : v < length marks
-  index_below = within
 
 -- a marked one itself
 pub near_first : (volumes : List Volume) (first : List Bool) (most v : ℕ) → is_marked first v ≡ true → IsNear volumes first most v

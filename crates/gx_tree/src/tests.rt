@@ -44,8 +44,10 @@ fn sealed(alloc: Global, figure: Figure, vertices: &[V3]) -> Result<Solid, Fail>
     requires vertices { vertices.now ≡ vertices_of figure }
 {
     let points = Vec::from_slice(alloc, vertices)?;
-    let hull = Hull::new(alloc, points).ok().ok_or("a hull")?;
-    Ok(Solid::seal(figure, hull))
+    match Hull::new(alloc, points) {
+        Ok(hull) => Ok(Solid::seal(figure, hull)),
+        Err(_) => Err("a hull".into()),
+    }
 }
 
 // A tetrahedron at the origin.

@@ -1,10 +1,6 @@
-use Rattle.std.proofs.Common.{◌≡◌, ◌+◌, ◌<◌, ◌≤◌, ℕ, inl, inr, Bool, true, List, length, set, slice_index_or, sym, ◌∙◌, ap, subst, arith, true≢false}
+use Rattle.std.proofs.Common.{◌≡◌, inl, inr, length, sym, ◌∙◌, ap, arith, true≢false}
 use Rattle.std.proofs.lemmas.Bool.{cases_lt}
-use Rattle.std.proofs.lemmas.List.{get_or_read}
-use Rattle.gx_tree.specs.declared.placement.Placement.{Placement}
-use Rattle.gx_tree.specs.Volume.{Volume, daughter_of}
-use Rattle.gx_tree.specs.Marks.{is_marked, IsSearch, IsVisit}
-use Rattle.gx_tree.proofs.Marks.{marked-below}
+use Rattle.gx_tree.specs.Marks.{is_marked}
 use Rattle.gx_tree.proofs.Search.{first_more, visit_more, visit_done, reached_is}
 use Rattle.gx_tree.proofs.chains.reached.Goals as goal
 use Rattle.gx_tree.proofs.chains.reached.Goals.{then-marked+in_ok-find, else-marked}

@@ -1,4 +1,4 @@
-use Rattle.std.proofs.Common.{◌≡◌, ◌-◌, ◌<◌, ◌≤◌, ℕ, true, length, take, slice_index}
+use Rattle.std.proofs.Common.{◌≡◌, ◌-◌, ◌<◌, ◌≤◌, ℕ, true, length}
 use Rattle.gx_tree.specs.Marks.{is_marked, IsSearch, AreStill, AreClosed, IsVisit}
 use Rattle.gx_tree.proofs.chains.reached.Given as goal
 

@@ -1,4 +1,4 @@
-use Rattle.std.proofs.Common.{◌≡◌, ◌+◌, sym, ◌∙◌, ap, subst, arith}
+use Rattle.std.proofs.Common.{◌+◌, ◌∙◌, subst}
 use Rattle.std.proofs.lemmas.List.Elements.{All-more}
 use Rattle.gx_tree.specs.declared.placement.Placement.{Placement}
 use Rattle.gx_tree.specs.Volume.{rotation_of}

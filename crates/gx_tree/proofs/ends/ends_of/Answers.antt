@@ -1,4 +1,4 @@
-use Rattle.std.proofs.Common.{◌≡◌, ◌+◌, ℕ, List, map, All, sym, ◌∙◌, ap, subst, arith}
+use Rattle.std.proofs.Common.{map, All, ◌∙◌, ap, subst}
 use Rattle.std.proofs.lemmas.List.Elements.{All-more}
 use Rattle.gx_shapes.specs.Accepted.{IsSolid}
 use Rattle.gx_tree.specs.declared.placement.Placement.{Placement}

@@ -1,4 +1,4 @@
-use Rattle.std.proofs.Common.{ℕ, length, ap, arith, rules, leb}
+use Rattle.std.proofs.Common.{length, ap, arith, rules, leb}
 use Rattle.std.proofs.lemmas.List.Sorted.{IsPartitionPoint-from_clause, IsPartitionedBy-leb}
 use Rattle.gx_tree.specs.Ends.{ends_of}
 use Rattle.gx_tree.proofs.Ordinals.{ends_of-rises, place_is}

@@ -1,4 +1,4 @@
-use Rattle.std.proofs.Common.{rules, ◌≡◌, ◌↔◌, ◌+◌, ◌<◌, ℕ, inl, inr, Bool, true, false, List, length, replicate, sym, ap, ◌∙◌, subst, arith, true≢false}
+use Rattle.std.proofs.Common.{rules, ◌≡◌, ◌↔◌, ◌<◌, ℕ, inl, inr, Bool, true, false, List, length, replicate, sym, ap, ◌∙◌, subst, arith, true≢false}
 use Rattle.std.proofs.lemmas.Bool.{cases_lt, false_from_ne_true}
 use Rattle.gx_tree.specs.Fault as spec
 use Rattle.gx_tree.specs.Marks.{is_marked, IsLed}

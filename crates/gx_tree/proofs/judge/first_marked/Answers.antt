@@ -1,4 +1,4 @@
-use Rattle.std.proofs.Common.{length, sym, ap, ◌∙◌, arith}
+use Rattle.std.proofs.Common.{length, sym, arith}
 use Rattle.gx_tree.specs.Marks.{is_marked}
 use Rattle.gx_tree.proofs.Numbers.{first_number, no_number}
 use Rattle.gx_tree.proofs.judge.first_marked.Goals as goal

@@ -1,6 +1,6 @@
-use Rattle.std.proofs.Common.{rules, ◌≡◌, ◌↔◌, ◌||◌, ℕ, Bool, true, false, List, length, replicate, nat_eq, sym, ap, ◌∙◌, subst, arith}
+use Rattle.std.proofs.Common.{rules, ◌≡◌, ◌↔◌, ◌||◌, ℕ, Bool, true, false, List, length, replicate, nat_eq, ap, ◌∙◌, subst, arith}
 use Rattle.std.specs.List.{list_any}
-use Rattle.std.proofs.lemmas.List.{get_or_read, with_items_is, length-replicate}
+use Rattle.std.proofs.lemmas.List.{get_or_read, with_items_is}
 use Rattle.gx_tree.specs.Volume.{Volume, daughter_of}
 use Rattle.gx_tree.specs.Hierarchy.{volume_at}
 use Rattle.gx_tree.specs.Marks.{is_marked, IsReached}

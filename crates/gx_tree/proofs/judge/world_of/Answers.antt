@@ -1,5 +1,3 @@
-use Rattle.std.proofs.Common.{◌≡◌, sym, ◌∙◌, ap, subst, arith}
-use Rattle.gx_tree.specs.Fault as spec
 use Rattle.gx_tree.proofs.Formed.{world-below}
 use Rattle.gx_tree.proofs.judge.world_of.Goals as goal
 

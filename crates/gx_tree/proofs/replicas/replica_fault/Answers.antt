@@ -1,8 +1,5 @@
-use Rattle.std.proofs.Common.{◌≡◌, ◌≤◌, length, All, sym, ◌∙◌, ap, subst, arith}
-use Rattle.std.proofs.lemmas.List.Elements.{All-get_or, All-weaker}
-use Rattle.gx_tree.specs.declared.placement.Placement.{Placement}
+use Rattle.std.proofs.Common.{◌≤◌, length, sym, subst}
 use Rattle.gx_tree.specs.Volume.{Volume}
-use Rattle.gx_tree.specs.Limits.{IsInRange, IsPlaceable, instance_count}
 use Rattle.gx_tree.proofs.Counts.{few_placements}
 use Rattle.gx_tree.proofs.replicas.replica_fault.Goals as goal
 

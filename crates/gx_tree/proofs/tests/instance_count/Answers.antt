@@ -11,7 +11,7 @@ loop-placement-preserved c =
     let p = c.placement-item.result in
     let so_far = c.loop-placement.invariant in
     record {
-      placeable = All-more (IsPlaceable c.args.volumes) ps i p c.loop-placement-test.true so_far.placeable (subst (IsPlaceable c.args.volumes) c.placement-item.is ?);
+      placeable = All-more (IsPlaceable c.args.volumes) ps i p c.loop-placement-test.true so_far.placeable (subst (IsPlaceable c.args.volumes) c.placement-item.is (c.is_placeable.ensures c.if-not-is_placeable.false));
       count = start_more ps i p c.loop-placement.count c.count-count.result c.loop-placement-test.true c.placement-item.is so_far.count c.count-count.ensures;
       few = omega arith;
     }

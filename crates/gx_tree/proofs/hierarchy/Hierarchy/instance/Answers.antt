@@ -1,9 +1,8 @@
-use Rattle.std.proofs.Common.{◌≡◌, ◌<◌, ◌-◌, ℕ, List, length, map, slice_index_or, slice_get, Some, All, sym, ◌∙◌, ap, subst, arith}
-use Rattle.std.specs.Prelude.{sum_by}
+use Rattle.std.proofs.Common.{◌≡◌, ◌<◌, ℕ, List, length, map, slice_index_or, slice_get, Some, All, sym, ◌∙◌, ap, subst, arith}
 use Rattle.std.proofs.lemmas.List.{get_or_read}
 use Rattle.gx_tree.specs.declared.placement.Placement.{Placement}
-use Rattle.gx_tree.specs.Volume.{Volume, copies_of, instances_in}
-use Rattle.gx_tree.specs.Hierarchy.{Hierarchy, volume_at, instances}
+use Rattle.gx_tree.specs.Volume.{Volume, instances_in}
+use Rattle.gx_tree.specs.Hierarchy.{Hierarchy, volume_at}
 use Rattle.gx_tree.specs.Ends.{ends_of, IsEven}
 use Rattle.gx_tree.specs.Fault.{IsTree}
 use Rattle.gx_tree.proofs.Ordinals.{length-instances_in}

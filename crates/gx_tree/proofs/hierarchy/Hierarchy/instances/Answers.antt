@@ -1,5 +1,5 @@
-use Rattle.std.proofs.Common.{◌≡◌, ◌≤◌, ◌-◌, ℕ, List, [], length, map, slice_index, sym, ◌∙◌, ap, subst, arith}
-use Rattle.gx_tree.specs.Volume.{Volume, instances_in}
+use Rattle.std.proofs.Common.{◌≡◌, ◌-◌, ℕ, List, [], length, map, slice_index, ◌∙◌, ap, subst, arith}
+use Rattle.gx_tree.specs.Volume.{Volume}
 use Rattle.gx_tree.specs.Hierarchy.{Hierarchy, volume_at, instances}
 use Rattle.gx_tree.specs.Ends.{ends_of}
 use Rattle.gx_tree.specs.Fault.{IsTree}

@@ -2,7 +2,7 @@ use Rattle.std.proofs.Common.{◌≡◌, List, All, map, Ok, ap, subst, ◌∙�
 use Rattle.gx_shapes.specs.Accepted.{IsSolid}
 use Rattle.gx_tree.specs.declared.placement.Placement.{Placement}
 use Rattle.gx_tree.specs.Volume.{Volume, rotation_of}
-use Rattle.gx_tree.specs.Hierarchy.{Hierarchy, IsRotation}
+use Rattle.gx_tree.specs.Hierarchy.{IsRotation}
 use Rattle.gx_tree.specs.Ends.{ends_of}
 use Rattle.gx_tree.specs.Fault.{hierarchy_of}
 use Rattle.gx_tree.proofs.Tree.{is_tree}
