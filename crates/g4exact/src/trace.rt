@@ -38,12 +38,7 @@ fn print_span<K: Sink>(
 }
 
 // Writes the head and the report of the n-th ray.
-fn print_report<K: Sink>(
-    tree: &World,
-    number: u32,
-    ray: &Ray,
-    sink: &mut K,
-) -> Result<(), Failed>
+fn print_report<K: Sink>(tree: &World, number: u32, ray: &Ray, sink: &mut K) -> Result<(), Failed>
     requires { IsTraceable ray.now }
     ensures bytes { (rows : List Row) × IsReport (path_along tree.now ray.now) rows × Writes (K.written sink.old) (K.written sink.new) (ray_text tree.now number rows) result }
     ensures cause { HasCause (K.faults sink.old) (K.faults sink.new) result }
