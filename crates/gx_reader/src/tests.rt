@@ -1,4 +1,4 @@
-use crate::{Input, MAX_TEXT, ReadError, Reader, TextFault};
+use crate::{Input, ReadError, Reader, TextFault};
 use gx_expr::{Grid, Value};
 use gx_num::{Extent, Ray, V3};
 use gx_table::FaultName::{
@@ -16,11 +16,8 @@ fn millimetre() -> Result<Grid, Fail> {
 // Reads a text that comes in pieces of so many bytes.
 fn read(alloc: Global, text: &[u8], most: usize) -> Result<Result<Input, ReadError>, Fail> {
     let mut reader = Reader::new(alloc, millimetre()?);
-    let mut rest = text;
-    while !rest.is_empty() {
-        let (piece, later) = rest.split_at(rest.len().min(most.max(1)));
+    for piece in text.chunks(most.max(1)) {
         reader.feed(piece)?;
-        rest = later;
     }
     Ok(reader.finish())
 }
@@ -127,7 +124,7 @@ fn each_text_has_its_first_fault(rt: HostRuntime) -> Result<(), Fail> {
     Ok(())
 }
 
-// Its length is judged before its lines, and from the byte on that is one too many.
+// By hand: 2^26 - 1 bytes are 1023 pieces of 65,536 and one of 65,535. A text's length is judged before its lines.
 #[test]
 fn a_text_has_a_most(rt: HostRuntime) -> Result<(), Fail> {
     let alloc = rt.alloc();
@@ -145,12 +142,10 @@ fn a_text_has_a_most(rt: HostRuntime) -> Result<(), Fail> {
     for (more, first) in [(b"x".as_slice(), none), (b"xx".as_slice(), long)] {
         let mut reader = Reader::new(alloc, millimetre()?);
         reader.feed(more)?;
-        let mut count = 1usize;
-        while count < MAX_TEXT {
-            let piece = &lines[..lines.len().min(MAX_TEXT - count)];
-            reader.feed(piece)?;
-            count += piece.len();
+        for _ in 0..1023 {
+            reader.feed(&lines)?;
         }
+        reader.feed(&lines[1..])?;
         let answer = reader.finish();
         assert!(rt; matches!(&answer, Err(ReadError::Text(fault)) if *fault == first));
     }
