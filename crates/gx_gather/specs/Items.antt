@@ -1,5 +1,5 @@
 -- Lines of volumes and placements, in the order of the text.
-use Rattle.std.specs.Prelude.{ℕ, Bool, true, false, ◌×◌, List, filter_map, filter, length, Option, Some, None}
+use Rattle.std.specs.Prelude.{ℕ, Bool, true, false, List, filter_map, filter, length, Option, Some, None}
 use Rattle.gx_decl.specs.Range.{IsName, IsPlacement}
 use Rattle.gx_gather.specs.declared.item.Item.{Item}
 use Rattle.gx_gather.specs.declared.item.Item.TheVariants.{Volume, Place}

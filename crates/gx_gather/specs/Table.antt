@@ -1,5 +1,5 @@
 -- Tables: names with what they name, in the order in which they came.
-use Rattle.std.specs.Prelude.{◌≡◌, refl, ℕ, ◌×◌, List, [], ◌∷◌, ◌++◌, length, slice_get, nat_le, is_some, IsSome, Option, None, Result, Ok, Err, if◌then◌else◌}
+use Rattle.std.specs.Prelude.{◌≡◌, refl, ℕ, List, [], ◌∷◌, ◌++◌, length, slice_get, nat_le, is_some, IsSome, Option, None, Result, Ok, Err, if◌then◌else◌}
 use Rattle.std.specs.Option.{option_and_then}
 use Rattle.std.specs.Coded.{Coded, code_by, coded×, coded_ℕ, coded_list}
 use Rattle.gx_table.specs.declared.fault.FaultName.TheVariants.{Twice, TooMany}

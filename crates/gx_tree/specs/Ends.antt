@@ -1,9 +1,11 @@
 -- Running counts of instances. No public contract stands on this file.
-use Rattle.std.specs.Prelude.{◌≡◌, ℕ, ◌+◌, ◌%◌, ◌<◌, ◌≤◌, unsigned_abs, List, length, take, map, sum_by}
+use Rattle.std.specs.Prelude.{◌≡◌, ℕ, ◌+◌, ◌%◌, ◌<◌, ◌≤◌, ℤ, unsigned_abs, List, length, take, map, sum_by, All}
 use Rattle.std.specs.List.{range_with_len}
+use Rattle.gx_num.specs.declared.vector.TheConstants.{M}
 use Rattle.gx_tree.specs.declared.placement.Placement.{Placement}
 use Rattle.gx_tree.specs.declared.placement.Placement.TheVariants.{Replica}
 use Rattle.gx_tree.specs.Volume.{copies_of}
+use Rattle.gx_tree.specs.Limits.{AreCopies, IsPlaceable}
 
 -- the number of instances before a placement
 abbrev pub start_of : List Placement → ℕ → ℕ
@@ -23,3 +25,14 @@ pub record IsPlace (placements : List Placement) (k place : ℕ) : Type 0 where
   pub below : place < length placements
   pub from : start_of placements place ≤ k
   pub to : k < start_of placements (place + 1)
+
+-- placements in range, of at most 4096 daughters
+pub record IsMother (count : ℕ) (placements : List Placement) : Type 0 where
+  pub placeable : All (IsPlaceable count) placements
+  pub few : sum_by copies_of placements ≤ 4096
+
+-- a row of copies, which need not be near
+pub record IsGiven (axis count : ℕ) (step offset : ℤ) : Type 0 where
+  pub copies : AreCopies axis count
+  pub near_step : unsigned_abs step ≤ unsigned_abs M
+  pub near_offset : unsigned_abs offset ≤ unsigned_abs M

@@ -8,6 +8,7 @@ mod hierarchy;
 mod instance;
 mod judge;
 pub mod laws;
+mod limits;
 mod placement;
 mod replicas;
 #[cfg(test)]
@@ -18,6 +19,7 @@ mod world;
 pub use fault::{TreeError, TreeFault};
 pub use hierarchy::Hierarchy;
 pub use instance::Instance;
+pub use limits::are_within_limits;
 pub use placement::Placement;
 pub use volume::Volume;
 pub use world::World;

@@ -1,15 +1,14 @@
-ghost use Rattle.std.specs.Prelude.{◌≡◌, ◌<◌, ◌≤◌, sum_by, unsigned_abs, All, IsTrue, IfSome};
-ghost use Rattle.gx_tree.specs.Volume.{copies_of};
+ghost use Rattle.std.specs.Prelude.{◌≡◌, unsigned_abs, All};
 ghost use Rattle.gx_num.specs.Vector.{IsWithin};
 ghost use Rattle.gx_num.specs.declared.vector.TheConstants.{M};
 ghost use Rattle.gx_shapes.specs.Accepted.{IsSolid};
 ghost use Rattle.gx_shapes.specs.Solid.{vertices_of};
-ghost use Rattle.gx_tree.specs.Limits.{AreCopies, IsRow, IsInRange, IsPlaceable, IsWithinLimits};
 
-use crate::{Hierarchy, Instance, Placement, TreeError, TreeFault, Volume, World};
+use crate::{
+    Hierarchy, Instance, Placement, TreeError, TreeFault, Volume, World, are_within_limits,
+};
 use gx_hull::{Hull, Solid};
 use gx_num::{M, V3};
-use gx_param::reaches;
 use gx_rotation::Rotation;
 use gx_shapes::{Figure, SolidKind};
 use std::alloc::Global;
@@ -149,106 +148,12 @@ fn slab(alloc: Global) -> Result<Solid, Fail> {
     sealed(alloc, Figure::Cuboid(2, 10, 10), &corners)
 }
 
-// ---- volumes within the limits
-
-fn is_near(value: i64, bound: i64) -> bool
-    ensures { IsTrue result → unsigned_abs value ≤ unsigned_abs bound }
-{
-    value.unsigned_abs() <= bound.unsigned_abs()
-}
-
-fn is_count(axis: u8, count: u32) -> bool
-    ensures { IsTrue result → AreCopies axis count }
-{
-    axis < 3 && 1 <= count && count <= 4096
-}
-
-fn is_row(axis: u8, count: u32, step: i64, offset: i64) -> bool
-    ensures { IsTrue result → IsRow axis count step offset }
-{
-    is_count(axis, count) && is_near(step, M) && is_near(offset, M) && reaches(count, step, offset)
-}
-
-fn is_in_range(placement: &Placement) -> bool
-    ensures { IsTrue result → IsInRange placement.now }
-{
-    match *placement {
-        Placement::Single { offset, .. } => {
-            is_near(offset.x, M) && is_near(offset.y, M) && is_near(offset.z, M)
-        }
-        Placement::Replica {
-            axis,
-            count,
-            width,
-            ..
-        } => is_count(axis, count) && is_near(width, 2 * M),
-        Placement::Linear {
-            axis,
-            count,
-            step,
-            offset,
-            ..
-        } => is_row(axis, count, step, offset),
-        Placement::Square {
-            plane,
-            first_count,
-            second_count,
-            first_step,
-            second_step,
-            first_offset,
-            second_offset,
-            ..
-        } => {
-            is_row(plane, first_count, first_step, first_offset)
-                && is_row(plane, second_count, second_step, second_offset)
-        }
-    }
-}
-
-fn is_placeable(placement: &Placement, count: usize) -> bool
-    ensures { IsTrue result → IsPlaceable count placement.now }
-{
-    (placement.volume() as usize) < count && is_in_range(placement)
-}
-
-// How many instances the placements stand for, where each is in range and they are few.
-fn instance_count(placements: &[Placement], volumes: usize) -> Option<u32>
-    ensures placeable { IfSome result (λ _. All (IsPlaceable volumes) placements.now) }
-    ensures count { IfSome result (λ count. count ≡ sum_by copies_of placements.now) }
-    ensures few { IfSome result (λ count. count ≤ 4096) }
-{
-    let mut count = 0;
-    for placement in placements {
-        if !is_placeable(placement, volumes) {
-            return None;
-        }
-        count += placement.count();
-        if count > 4096 {
-            return None;
-        }
-    }
-    Some(count)
-}
-
-fn within_limits(volumes: Vec<Volume>) -> Option<Vec<Volume>>
-    ensures { IfSome result (λ volumes. IsWithinLimits volumes.items) }
-{
-    if volumes.len() > 4096 {
-        return None;
-    }
-    let mut all = 0;
-    for volume in &volumes {
-        let count = instance_count(volume.placements(), volumes.len())?;
-        all += count;
-    }
-    if all > 65536 {
-        return None;
-    }
-    Some(volumes)
-}
+// ---- hierarchies
 
 fn hierarchy(alloc: Global, volumes: Vec<Volume>) -> Result<Result<Hierarchy, TreeError>, Fail> {
-    let volumes = within_limits(volumes).ok_or("too much")?;
+    if !are_within_limits(&volumes) {
+        return Err("too much".into());
+    }
     Ok(Hierarchy::new(alloc, volumes))
 }
 

@@ -2,7 +2,7 @@ use Rattle.std.proofs.Common.{◌≡◌, ◌≤◌, take, All}
 use Rattle.std.specs.Prelude.{sum_by}
 use Rattle.gx_tree.specs.Volume.{copies_of}
 use Rattle.gx_tree.specs.Limits.{IsPlaceable}
-use Rattle.gx_tree.proofs.tests.instance_count.Given as goal
+use Rattle.gx_tree.proofs.limits.instance_count.Given as goal
 
 abbrev pub invariant-loop-placement : goal.invariant-loop-placement
 invariant-loop-placement l = record {
