@@ -1,5 +1,5 @@
 -- What the lines of a text declare together: each line after those before it.
-use Rattle.std.specs.Prelude.{ℕ, ◌+◌, List, [], ◌∷◌, ◌++◌, length, nat_le, is_some, Option, None, Some, Result, Ok, Err, if◌then◌else◌}
+use Rattle.std.specs.Prelude.{ℕ, ◌+◌, List, [], ◌∷◌, ◌++◌, length, nat_le, Option, None, Some, Result, Ok, Err, if◌then◌else◌}
 use Rattle.gx_num.specs.declared.ray.Ray.{Ray}
 use Rattle.gx_fraction.specs.Fraction.{Fraction}
 use Rattle.gx_table.specs.declared.fault.FaultName.{FaultName}
@@ -10,7 +10,6 @@ use Rattle.gx_text.specs.TextLine.{TextLine}
 use Rattle.gx_expr.specs.Param.{Param, with_param}
 use Rattle.gx_shapes.specs.declared.figure.Figure.{Figure}
 use Rattle.gx_rotation.specs.Matrix.{Matrix}
-use Rattle.gx_names.specs.Names.{number_of}
 use Rattle.gx_decl.specs.declared.declaration.Declaration.{Declaration}
 use Rattle.gx_decl.specs.declared.declaration.Declaration.TheVariants as line
 use Rattle.gx_decl.specs.Decl.{declared_of}
@@ -23,7 +22,7 @@ use Rattle.gx_gather.specs.declared.gathered.TheConstants.{MAX_PARAMS, MAX_SOLID
 use Rattle.gx_gather.specs.declared.rays.TheConstants.{MAX_RAYS}
 use Rattle.gx_gather.specs.Faults.{on_line}
 use Rattle.gx_gather.specs.Items.{volume_names, placement_count}
-use Rattle.gx_gather.specs.Table.{Table, empty, entered}
+use Rattle.gx_gather.specs.Table.{Table, empty, name_fault, unless, entered}
 
 -- parameters, how many lines declared them, solids, rotations, the lines of volumes and placements, and rays
 pub record Declarations : Type 0 where
@@ -48,9 +47,7 @@ with_params d (Some params) =
 
 abbrev pub with_volume : Declarations → ℕ → List ℕ → Shape → List ℕ → Result Declarations Fault
 with_volume d number name shape material =
-    if is_some (number_of (volume_names d.items) name) then fault_at 2 Twice
-    else if nat_le MAX_VOLUMES (length (volume_names d.items)) then fault_at 1 TooMany
-    else Ok (record d { items = d.items ++ Volume number name shape material ∷ [] })
+    unless (name_fault MAX_VOLUMES (volume_names d.items) name) (record d { items = d.items ++ Volume number name shape material ∷ [] })
 
 abbrev pub with_placement : Declarations → Item → Result Declarations Fault
 with_placement d item =

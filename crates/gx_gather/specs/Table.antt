@@ -1,5 +1,5 @@
 -- Tables: names with what they name, in the order in which they came.
-use Rattle.std.specs.Prelude.{◌≡◌, refl, ℕ, List, [], ◌∷◌, ◌++◌, length, slice_get, nat_le, is_some, IsSome, Option, None, Result, Ok, Err, if◌then◌else◌}
+use Rattle.std.specs.Prelude.{◌≡◌, refl, ℕ, List, [], ◌∷◌, ◌++◌, length, slice_get, nat_le, is_some, Option, None, Some, Result, Ok, Err, if◌then◌else◌}
 use Rattle.std.specs.Option.{option_and_then}
 use Rattle.std.specs.Coded.{Coded, code_by, coded×, coded_ℕ, coded_list}
 use Rattle.gx_table.specs.declared.fault.FaultName.TheVariants.{Twice, TooMany}
@@ -23,15 +23,24 @@ empty = record { names = []; values = [] }
 abbrev pub value_of : {A : Type 0} → Table A → List ℕ → Option A
 value_of t name = option_and_then (slice_get t.values) (number_of t.names name)
 
--- A new name goes last. One that is there is at fault, at word 2 of its line; one more than the most at word 1.
-abbrev pub entered : {A : Type 0} → ℕ → Table A → List ℕ → A → Result (Table A) Fault
-entered most t name value =
-    if is_some (number_of t.names name) then Err (record { place = 2; name = Twice })
-    else if nat_le most (length t.names) then Err (record { place = 1; name = TooMany })
-    else Ok (record { names = t.names ++ name ∷ []; values = t.values ++ value ∷ [] })
+-- A name that is there is at fault at word 2 of its line; one more than the most at word 1.
+abbrev pub name_fault : ℕ → List (List ℕ) → List ℕ → Option Fault
+name_fault most names name =
+    if is_some (number_of names name) then Some (record { place = 2; name = Twice })
+    else if nat_le most (length names) then Some (record { place = 1; name = TooMany })
+    else None
 
--- a new name gets the next number; one that is there is at fault
-abbrev pub IsDefined : List (List ℕ) → List ℕ → List (List ℕ) → Result (Unit {0}) Refusal → Type 0
-IsDefined old name new (Ok done) = (number_of old name ≡ None) × (new ≡ old ++ name ∷ [])
-IsDefined old name new (Err (At fault)) = (new ≡ old) × IsSome (number_of old name) × (fault ≡ record { place = 2; name = Twice })
-IsDefined old name new (Err NoMemory) = (new ≡ old) × (number_of old name ≡ None)
+-- a fault, or else this
+abbrev pub unless : {A : Type 0} → Option Fault → A → Result A Fault
+unless None a = Ok a
+unless (Some fault) a = Err fault
+
+-- a new name goes last
+abbrev pub entered : {A : Type 0} → ℕ → Table A → List ℕ → A → Result (Table A) Fault
+entered most t name value = unless (name_fault most t.names name) (record { names = t.names ++ name ∷ []; values = t.values ++ value ∷ [] })
+
+-- a new name gets the next number, or has its fault, or memory is wanting
+abbrev pub Defines : ℕ → List (List ℕ) → List ℕ → List (List ℕ) → Result (Unit {0}) Refusal → Type 0
+Defines most old name new (Ok done) = (name_fault most old name ≡ None) × (new ≡ old ++ name ∷ [])
+Defines most old name new (Err (At fault)) = (name_fault most old name ≡ Some fault) × (new ≡ old)
+Defines most old name new (Err NoMemory) = new ≡ old

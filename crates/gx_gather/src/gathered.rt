@@ -161,13 +161,10 @@ impl Gathered {
         ensures err { IfErr result (IsCauseAt (with_params self.old.so_far (with_param self.old.so_far.params name.now value))) }
     {
         match self.params.define(name, value) {
-            Ok(()) => self.count_param_line(),
-            Err(ParamFault::Twice) => Err(twice()),
-            Err(ParamFault::NoMemory) => Err(Refusal::NoMemory),
+            Ok(()) => {}
+            Err(ParamFault::Twice) => return Err(twice()),
+            Err(ParamFault::NoMemory) => return Err(Refusal::NoMemory),
         }
-    }
-
-    fn count_param_line(&mut self) -> Result<(), Refusal> {
         if self.param_lines >= MAX_PARAMS {
             return Err(too_many());
         }
@@ -187,21 +184,15 @@ impl Gathered {
         ensures ok { OnOk result (with_volume self.old.so_far line name shape material ≡ Ok self.new.so_far) }
         ensures err { IfErr result (IsCauseAt (with_volume self.old.so_far line name shape material)) }
     {
-        if self.volumes.count() >= MAX_VOLUMES && self.volumes.number(name.bytes()).is_none() {
-            return Err(too_many());
-        }
-        let bytes = Vec::from_slice(self.alloc, name.bytes())?;
+        self.items.reserve(1)?;
+        define(&mut self.volumes, MAX_VOLUMES, name.bytes())?;
         self.items.push(Item::Volume {
             line,
             name,
             shape,
             material,
         })?;
-        let defined = define(&mut self.volumes, &bytes);
-        if defined.is_err() {
-            self.items.pop();
-        }
-        defined
+        Ok(())
     }
 
     fn add_placement(

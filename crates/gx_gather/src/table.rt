@@ -1,7 +1,7 @@
-ghost use Rattle.std.specs.Prelude.{◌≡◌, ◌<◌, ◌^◌, ◌-◌, IfOk, IfErr, OnOk, OnErr, Ok, length};
-ghost use Rattle.gx_names.specs.Names.{Defines};
+ghost use Rattle.std.specs.Option.{option_map};
+ghost use Rattle.std.specs.Prelude.{◌≡◌, ◌<◌, ◌^◌, ◌-◌, ◌≤◌, ℕ, IfErr, OnOk, OnErr, Ok, Err, length};
 ghost use Rattle.gx_gather.specs.Faults.{IsCauseAt};
-ghost use Rattle.gx_gather.specs.Table.{empty, value_of, entered};
+ghost use Rattle.gx_gather.specs.Table.{empty, value_of, name_fault, entered, Defines};
 
 use crate::fault::{too_many, twice};
 use gx_form::Refusal;
@@ -17,7 +17,8 @@ pub struct Table<T> {
 }
 
 impl<T> Model for Table<T> {
-    ghost use Rattle.std.specs.Prelude.{◌≡◌, length};
+    ghost use Rattle.std.specs.Option.{option_map};
+ghost use Rattle.std.specs.Prelude.{◌≡◌, length};
     ghost use Rattle.gx_gather.specs.Table.{Table as Rows, table_code};
 
     ghost Value = { Rows T };
@@ -56,26 +57,35 @@ impl<T: Drop> Table<T> {
         ensures err { IfErr result (IsCauseAt (entered most self.old name.now value)) }
         ensures kept { OnErr result (self.new ≡ self.old) }
     {
-        if self.names.count() >= most && self.names.number(name).is_none() {
-            return Err(too_many());
-        }
+        self.values.reserve(1)?;
+        define(&mut self.names, most, name)?;
         self.values.push(value)?;
-        let defined = define(&mut self.names, name);
-        if defined.is_err() {
-            self.values.pop();
-        }
-        defined
+        Ok(())
     }
 }
 
 /// Gives a new name the next number.
-pub(crate) fn define(names: &mut Names, name: &[u8]) -> Result<(), Refusal>
-    requires { length names.old < 2 ^ 32 - 1 }
-    ensures { IsDefined names.old name.now names.new result }
+pub(crate) fn define(names: &mut Names, most: u32, name: &[u8]) -> Result<(), Refusal>
+    requires { most < 2 ^ 32 - 1 }
+    ensures defines { Defines most names.old name.now names.new result }
+    ensures room { OnOk result (length names.old < most) }
 {
+    if names.count() >= most {
+        return Err(refusal(names, name));
+    }
     match names.define(name) {
         Ok(_) => Ok(()),
         Err(NameFault::Twice) => Err(twice()),
         Err(NameFault::NoMemory) => Err(Refusal::NoMemory),
+    }
+}
+
+// Where no more names may be defined.
+fn refusal(names: &Names, name: &[u8]) -> Refusal
+    ensures { (most : ℕ) → most ≤ length names.now → Defines most names.now name.now names.now (Err result) }
+{
+    match names.number(name) {
+        Some(_) => twice(),
+        None => too_many(),
     }
 }
