@@ -3,6 +3,7 @@ ghost use Rattle.std.specs.Prelude.{◌≡◌};
 use gx_form::{Fault, Refusal};
 use gx_num::NoMemory;
 use gx_table::FaultName;
+use gx_text::{LineError, LineFault};
 use std::alloc::{AllocError, AllocFailed};
 use thiserror::Error;
 
@@ -66,6 +67,32 @@ impl<T: Drop> From<AllocFailed<T>> for ReadError {
     fn from(_: AllocFailed<T>) -> Self {
         ReadError::NoMemory
     }
+}
+
+impl From<LineError> for ReadError {
+    ghost use Rattle.std.specs.Prelude.{◌≡◌};
+    ghost use Rattle.gx_gather.specs.Faults.{error_of};
+
+    ghost from_gives = { λ error e. e ≡ error_of error };
+
+    fn from(error: LineError) -> Self {
+        match error {
+            LineError::Fault(LineFault::LongLine { line }) => {
+                text_fault(line, 0, FaultName::LongLine)
+            }
+            LineError::Fault(LineFault::NotAscii { line, column }) => {
+                text_fault(line, column, FaultName::NotAscii)
+            }
+            LineError::NoMemory => ReadError::NoMemory,
+        }
+    }
+}
+
+/// A fault of a text, as an error.
+pub fn text_fault(line: u32, word: u32, name: FaultName) -> ReadError
+    ensures { result ≡ ReadError.Text (record { line = line; word = word; name = name }) }
+{
+    ReadError::Text(TextFault { line, word, name })
 }
 
 // A name that is there already, at its word.

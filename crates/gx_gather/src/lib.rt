@@ -9,7 +9,7 @@ mod table;
 #[cfg(test)]
 mod tests;
 
-pub use fault::{ReadError, TextFault};
+pub use fault::{ReadError, TextFault, text_fault};
 pub use gathered::{Gathered, MAX_PLACEMENTS, MAX_VOLUMES, Parts};
 pub use item::{Item, Shape};
 pub use rays::Rays;

@@ -1,3 +1,1 @@
-pub mod Fitting
-pub mod Judged
-pub mod Resume
+mod Resume

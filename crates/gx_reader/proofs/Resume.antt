@@ -15,14 +15,15 @@ use Rattle.gx_text.specs.ScannerState.{ScannerState, Step, ending, going_on, num
 use Rattle.gx_text.specs.ScannerState.ScannerState.{Scanning, Failed}
 use Rattle.gx_text.proofs.FaultLemmas.{fault_stays}
 use Rattle.gx_text.proofs.StepLemmas.{HasNoLf, first_lf, no_lf, is_lf, after_part, after_line}
-use Rattle.gx_reader.specs.declared.fault.TextFault.{TextFault}
-use Rattle.gx_reader.specs.declared.fault.ReadError.{ReadError}
-use Rattle.gx_reader.specs.declared.fault.ReadError.TheVariants.{Text, NoMemory as NoReadMemory}
-use Rattle.gx_reader.specs.Form.{Declarations}
+use Rattle.gx_gather.specs.declared.fault.TextFault.{TextFault}
+use Rattle.gx_gather.specs.declared.fault.ReadError.{ReadError}
+use Rattle.gx_gather.specs.declared.fault.ReadError.TheVariants.{Text, NoMemory as NoReadMemory}
+use Rattle.gx_gather.specs.Declarations.{Declarations}
 use Rattle.gx_form.specs.First.{◌>>=◌}
-use Rattle.gx_reader.specs.Reading.{line_fault, with_line, read_lines, IsCause}
+use Rattle.gx_gather.specs.Faults.{line_fault, error_of, IsCause}
+use Rattle.gx_reader.specs.Reading.{with_line, read_lines}
 use Rattle.gx_reader.specs.declared.line_reader.LineReader.TheVariants.{Stopped}
-use Rattle.gx_reader.specs.Resumed.{resumed, IsOpen, error_of, answered, is_out_of_memory, Tells}
+use Rattle.gx_reader.specs.Resumed.{resumed, IsOpen, answered, is_out_of_memory, Tells}
 
 ok_same : {A E : Type 0} (a b : A) → ◌≡◌ {A = Result A E} (Ok a) (Ok b) → a ≡ b
 ok_same a b e = cc

@@ -1,9 +1,3 @@
-pub mod Form
-pub mod Given
-pub mod Judge
-pub mod Kind
-pub mod Rays
 pub mod Reader
 pub mod Reading
 pub mod Resumed
-pub mod SoFar

@@ -3,12 +3,13 @@ use Rattle.std.specs.Prelude.{◌≡◌, ◌↔◌, ℕ, ◌+◌, List, [], ◌+
 use Rattle.gx_num.specs.declared.memory.NoMemory.{NoMemory as Wanting}
 use Rattle.gx_fraction.specs.Fraction.{Fraction}
 use Rattle.gx_table.specs.declared.fault.FaultName.TheVariants.{LongText}
-use Rattle.gx_reader.specs.declared.fault.ReadError.{ReadError}
-use Rattle.gx_reader.specs.declared.fault.ReadError.TheVariants.{Text, NoMemory}
-use Rattle.gx_reader.specs.declared.input.Input.{Input}
+use Rattle.gx_gather.specs.declared.fault.ReadError.{ReadError}
+use Rattle.gx_gather.specs.declared.fault.ReadError.TheVariants.{Text, NoMemory}
+use Rattle.gx_link.specs.declared.input.Input.{Input}
 use Rattle.gx_reader.specs.declared.line_reader.LineReader.{LineReader}
 use Rattle.gx_reader.specs.declared.reader.TheConstants.{MAX_TEXT}
-use Rattle.gx_reader.specs.Reading.{fault_at, reading}
+use Rattle.gx_gather.specs.Faults.{fault_at}
+use Rattle.gx_reader.specs.Reading.{reading}
 use Rattle.gx_reader.specs.Resumed.{answered, is_out_of_memory, lines_input, Tells}
 
 -- how many bytes came so far, and what is kept of their lines

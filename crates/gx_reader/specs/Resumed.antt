@@ -2,25 +2,19 @@
 use Rattle.std.specs.Prelude.{◌≡◌, ◌⊎◌, ℕ, ◌+◌, ◌^◌, ◌<◌, Bool, true, false, List, ◌++◌, ◌==◌, All, Result, Ok, Err}
 use Rattle.gx_fraction.specs.Fraction.{Fraction}
 use Rattle.gx_form.specs.First.{◌>>=◌}
-use Rattle.gx_text.specs.declared.lines.LineError.{LineError}
-use Rattle.gx_text.specs.declared.lines.LineError.TheVariants.{Fault, NoMemory as NoLineMemory}
 use Rattle.gx_text.specs.Lines.{cut}
 use Rattle.gx_text.specs.ScannerState.{ScannerState}
 use Rattle.gx_text.specs.ScannerState.ScannerState.{Scanning, Failed}
-use Rattle.gx_reader.specs.declared.fault.TextFault.{TextFault}
-use Rattle.gx_reader.specs.declared.fault.ReadError.{ReadError}
-use Rattle.gx_reader.specs.declared.fault.ReadError.TheVariants.{Text, NoMemory}
-use Rattle.gx_reader.specs.declared.input.Input.{Input}
+use Rattle.gx_gather.specs.declared.fault.TextFault.{TextFault}
+use Rattle.gx_gather.specs.declared.fault.ReadError.{ReadError}
+use Rattle.gx_gather.specs.declared.fault.ReadError.TheVariants.{Text, NoMemory}
+use Rattle.gx_gather.specs.Declarations.{Declarations}
+use Rattle.gx_link.specs.declared.input.Input.{Input}
+use Rattle.gx_link.specs.Text.{input_of}
 use Rattle.gx_reader.specs.declared.line_reader.Reading.{Reading}
 use Rattle.gx_reader.specs.declared.line_reader.LineReader.{LineReader}
 use Rattle.gx_reader.specs.declared.line_reader.LineReader.TheVariants.{Reading as Going, Stopped}
-use Rattle.gx_reader.specs.Form.{Declarations}
-use Rattle.gx_reader.specs.Reading.{line_fault, read_lines, input_of, IsCause}
-
--- a line's error as the reader's
-abbrev pub error_of : LineError → ReadError
-error_of (Fault fault) = Text (line_fault fault)
-error_of NoLineMemory = NoMemory
+use Rattle.gx_reader.specs.Reading.{read_lines}
 
 -- what the line that isn't ended and the bytes that are left declare; nothing where the state isn't open
 abbrev pub resumed : Fraction → Declarations → ScannerState → List ℕ → Result Declarations TextFault
@@ -54,7 +48,7 @@ lines_as (Going r) later = answered (left_by r later)
 lines_as (Stopped error) later = Err error
 
 abbrev pub input_as : Declarations → Result Input ReadError
-input_as d = answered (input_of d.world d.rays)
+input_as d = answered (input_of d)
 
 -- the input that they declare
 abbrev pub lines_input : LineReader → List ℕ → Result Input ReadError

@@ -1,41 +1,15 @@
 ghost use Rattle.std.specs.Prelude.{◌≡◌, ◌<◌, ◌+◌, ◌^◌, ◌++◌, ℕ, List, [], length, false, IfOk, IfErr, OnOk, Ok, IsTrue};
 ghost use Rattle.gx_text.specs.ScannerState.ScannerState.{Scanning};
-ghost use Rattle.gx_reader.specs.Form.{nothing_declared};
-ghost use Rattle.gx_reader.specs.Reading.{with_line, text_lines, input_from, IsCause};
+ghost use Rattle.gx_gather.specs.Declarations.{nothing_declared};
+ghost use Rattle.gx_gather.specs.Faults.{IsCause};
+ghost use Rattle.gx_reader.specs.Reading.{with_line, text_lines, input_from as input_of_lines};
 ghost use Rattle.gx_reader.specs.Resumed.{IsOpen, IsOpenReader, left_by, is_out_of_memory, lines_as, lines_input, answered, Tells};
 
-use crate::declared::Declared;
-use crate::fault::{ReadError, TextFault};
-use crate::input::Input;
 use gx_expr::Grid;
-use gx_table::FaultName;
-use gx_text::{Line, LineError, LineFault, Lines};
+use gx_gather::{Gathered, ReadError};
+use gx_link::{Input, input_from};
+use gx_text::{Line, Lines};
 use std::alloc::Global;
-
-impl From<LineError> for ReadError {
-    ghost use Rattle.std.specs.Prelude.{◌≡◌};
-    ghost use Rattle.gx_reader.specs.Resumed.{error_of};
-
-    ghost from_gives = { λ error e. e ≡ error_of error };
-
-    fn from(error: LineError) -> Self {
-        match error {
-            LineError::Fault(LineFault::LongLine { line }) => {
-                text_fault(line, 0, FaultName::LongLine)
-            }
-            LineError::Fault(LineFault::NotAscii { line, column }) => {
-                text_fault(line, column, FaultName::NotAscii)
-            }
-            LineError::NoMemory => ReadError::NoMemory,
-        }
-    }
-}
-
-pub fn text_fault(line: u32, word: u32, name: FaultName) -> ReadError
-    ensures { result ≡ ReadError.Text (record { line = line; word = word; name = name }) }
-{
-    ReadError::Text(TextFault { line, word, name })
-}
 
 /// The lines of a text that comes in pieces, or the error that ended reading.
 #[derive(Drop)]
@@ -92,8 +66,9 @@ impl LineReader {
 /// A text that is read line by line.
 #[derive(Drop)]
 pub struct Reading {
+    alloc: Global,
     lines: Lines,
-    declared: Declared,
+    declared: Gathered,
 }
 
 impl Reading {
@@ -103,8 +78,9 @@ impl Reading {
         ensures nothing { result.declared.so_far ≡ nothing_declared }
     {
         Reading {
+            alloc,
             lines: Lines::new(alloc),
-            declared: Declared::new(alloc, grid),
+            declared: Gathered::new(alloc, grid),
         }
     }
 
@@ -137,19 +113,20 @@ impl Reading {
 
     pub fn finish(self) -> Result<Input, ReadError>
         requires { IsOpen 0 self.lines }
-        ensures ok { IfOk result (λ input. input_from (left_by self []) ≡ Ok input) }
-        ensures err { IfErr result (IsCause (input_from (left_by self []))) }
+        ensures ok { IfOk result (λ input. input_of_lines (left_by self []) ≡ Ok input) }
+        ensures err { IfErr result (IsCause (input_of_lines (left_by self []))) }
     {
         let Reading {
+            alloc,
             lines,
             mut declared,
         } = self;
         declare(&mut declared, lines.finish()?)?;
-        Ok(declared.finish()?)
+        input_from(alloc, declared)
     }
 }
 
-fn declare(declared: &mut Declared, line: Option<Line>) -> Result<(), ReadError>
+fn declare(declared: &mut Gathered, line: Option<Line>) -> Result<(), ReadError>
     ensures grid { declared.new.grid ≡ declared.old.grid }
     ensures ok { OnOk result (with_line declared.old.grid declared.old.so_far (Ok line) ≡ Ok declared.new.so_far) }
     ensures err { IfErr result (IsCause (with_line declared.old.grid declared.old.so_far (Ok line))) }

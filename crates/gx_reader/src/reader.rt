@@ -1,11 +1,9 @@
-ghost use Rattle.std.specs.Prelude.{◌≡◌, IfOk, IfErr, Ok};
 ghost use Rattle.gx_reader.specs.Reader.{Begins, Feeds, Finishes};
-ghost use Rattle.gx_reader.specs.Reading.{reading, IsCause};
 
-use crate::fault::ReadError;
-use crate::input::Input;
-use crate::line_reader::{LineReader, text_fault};
+use crate::line_reader::LineReader;
 use gx_expr::Grid;
+use gx_gather::{ReadError, text_fault};
+use gx_link::Input;
 use gx_num::NoMemory;
 use gx_table::FaultName;
 use std::alloc::Global;
@@ -69,14 +67,4 @@ impl Reader {
         }
         lines.finish()
     }
-}
-
-/// Reads a whole text, with lengths in steps of the grid: the input that it declares, or its first fault.
-pub fn read_text(alloc: Global, grid: &Grid, text: &[u8]) -> Result<Input, ReadError>
-    ensures ok { IfOk result (λ input. reading grid.now text.now ≡ Ok input) }
-    ensures err { IfErr result (IsCause (reading grid.now text.now)) }
-{
-    let mut reader = Reader::new(alloc, *grid);
-    reader.feed(text)?;
-    reader.finish()
 }
