@@ -1,0 +1,3 @@
+mod Daughters
+mod Limits
+mod Lists
