@@ -1,5 +1,5 @@
 -- The volumes that are made of lines without a crowd are within the limits of a hierarchy.
-use Rattle.std.proofs.Common.{◌≡◌, ℕ, suc, ◌+◌, ◌<◌, ◌≤◌, sym, ◌∙◌, ap, subst, inl, inr, refl, arith, Bool, true, false, nat_eq, List, [], ◌∷◌, length, map, All, None, eq-eqb}
+use Rattle.std.proofs.Common.{◌≡◌, ℕ, suc, ◌+◌, ◌<◌, ◌≤◌, sym, ap, subst, inl, inr, refl, arith, nat_eq, List, [], ◌∷◌, length, All, None, eq-eqb}
 use Rattle.std.specs.Prelude.{sum_by}
 use Rattle.std.proofs.lemmas.Bool.{cases_eq, ne_eqb}
 use Rattle.std.proofs.lemmas.List.Elements.{All-nil, All-cons, All-filter, All-map, All-weaker}
@@ -27,8 +27,8 @@ each_volume P ps all v (volume ∷ volumes) = All-cons (λ (u : Volume). P u.pla
 placeable_in : (count m : ℕ) (ps : List LinkedPlacement) → All (IsLinked count) ps → All (IsPlaceable count) (placements_in m ps)
 placeable_in count m ps linked =
     All-map (IsPlaceable count) (λ (p : LinkedPlacement). p.placement) (placed_in m ps)
-        (All-filter (λ (p : LinkedPlacement). nat_eq p.mother m) (λ (p : LinkedPlacement). IsPlaceable count p.placement) ps
-            (All-weaker (IsLinked count) (λ (p : LinkedPlacement). IsPlaceable count p.placement) (λ p (is : IsLinked count p). is.placeable) ps linked))
+    (All-filter (λ (p : LinkedPlacement). nat_eq p.mother m) (λ (p : LinkedPlacement). IsPlaceable count p.placement) ps
+    (All-weaker (IsLinked count) (λ (p : LinkedPlacement). IsPlaceable count p.placement) (λ p (is : IsLinked count p). is.placeable) ps linked))
 
 -- ---- all daughters, counted by their mothers
 abbrev total : List LinkedPlacement → ℕ → List LinkedVolume → ℕ

@@ -1,10 +1,9 @@
 -- Lists of placements, one for each mother.
 use Rattle.std.proofs.Common.{◌≡◌, ℕ, zero, suc, ◌+◌, ◌<◌, ◌≤◌, Vec, Global, sym, ◌∙◌, ap, subst, refl, arith, List, [], ◌∷◌, ◌++◌, length, map, set, get_or}
 use Rattle.std.specs.List.{range_with_len, zip}
-use Rattle.std.proofs.lemmas.List.{map-append, map-set, get_or-map, length-map}
-use Rattle.std.proofs.lemmas.List.FromFn.{length-range_with_len, get_or-map-range_with_len, map-range_with_len_more}
+use Rattle.std.proofs.lemmas.List.{length-map}
+use Rattle.std.proofs.lemmas.List.FromFn.{length-range_with_len, get_or-map-range_with_len}
 use Rattle.gx_tree.specs.declared.placement.Placement.{Placement}
-use Rattle.gx_tree.specs.Volume.{Volume}
 use Rattle.gx_link.specs.declared.link.LinkedVolume.{LinkedVolume}
 use Rattle.gx_link.specs.declared.link.LinkedPlacement.{LinkedPlacement}
 use Rattle.gx_link.specs.Crowd.{placements_in}

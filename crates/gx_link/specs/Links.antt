@@ -33,8 +33,8 @@ no_links = record { volumes = []; placements = [] }
 
 -- what a name stands for; one that stands for nothing is at fault at its word
 abbrev pub found : {A : Type 0} → Option A → ℕ → ℕ → FaultName → Result A TextFault
-found (Some a) line word name = Ok a
-found None line word name = Err (fault_at line word name)
+found (Some a) line word fault = Ok a
+found None line word fault = Err (fault_at line word fault)
 
 abbrev pub figure_of : Known → ℕ → Shape → Result Figure TextFault
 figure_of known line (Own figure) = Ok figure
@@ -54,9 +54,9 @@ turn_word (form.Single copy offset) = 5
 turn_word form = 6
 
 -- a placement without the name of a rotation isn't turned
-abbrev pub matrix_of : Known → ℕ → ℕ → Option (List ℕ) → Result Matrix TextFault
-matrix_of known line word None = Ok identity
-matrix_of known line word (Some name) = found (value_of known.turns name) line word NoRotation
+abbrev pub matrix_at_word : Known → ℕ → ℕ → Option (List ℕ) → Result Matrix TextFault
+matrix_at_word known line word None = Ok identity
+matrix_at_word known line word (Some name) = found (value_of known.turns name) line word NoRotation
 
 -- a form as a placement of a volume
 abbrev pub placement_of : ℕ → Matrix → Form → Placement
@@ -73,7 +73,7 @@ linked_with known links (Volume line name shape material) = do
 linked_with known links (Place line volume mother rotation form) = do
   v ← volume_at_word known line 2 volume
   m ← volume_at_word known line (mother_word form) mother
-  r ← matrix_of known line (turn_word form) rotation
+  r ← matrix_at_word known line (turn_word form) rotation
   Ok (record links { placements = links.placements ++ record { line = line; mother = m; placement = placement_of v r form } ∷ [] })
 
 abbrev pub linked_from : Known → Links → List Item → Result Links TextFault

@@ -1,6 +1,6 @@
 ghost use Rattle.std.specs.Prelude.{◌≡◌, IfOk, IfErr, Ok};
-ghost use Rattle.gx_gather.specs.Faults.{IsCause};
-ghost use Rattle.gx_link.specs.Links.{figure_of, volume_at_word, matrix_of};
+ghost use Rattle.gx_gather.specs.Faults.{fault_at, IsCause};
+ghost use Rattle.gx_link.specs.Links.{figure_of, volume_at_word, matrix_at_word};
 
 use gx_gather::{ReadError, Shape, Table, TextFault};
 use gx_hull::Solid;
@@ -45,14 +45,10 @@ impl Known {
     }
 
     /// The rotation that is named at a word of a line; the identity where none is.
-    pub fn rotation(
-        &self,
-        line: u32,
-        word: u32,
-        name: Option<Name>,
-    ) -> Result<Rotation, ReadError>
-        ensures ok { IfOk result (λ rotation. matrix_of self.now line word name ≡ Ok rotation) }
-        ensures err { IfErr result (IsCause (matrix_of self.now line word name)) }
+    #[tactic(auto, unfolding(gx_rotation::specs::Rotation::matrix_of))]
+    pub fn rotation(&self, line: u32, word: u32, name: Option<Name>) -> Result<Rotation, ReadError>
+        ensures ok { IfOk result (λ rotation. matrix_at_word self.now line word name ≡ Ok rotation) }
+        ensures err { IfErr result (IsCause (matrix_at_word self.now line word name)) }
     {
         match name {
             Some(name) => match self.turns.get(name.bytes()) {
@@ -64,6 +60,8 @@ impl Known {
     }
 }
 
-fn fault(line: u32, word: u32, name: FaultName) -> ReadError {
+fn fault(line: u32, word: u32, name: FaultName) -> ReadError
+    ensures { result ≡ ReadError.Text (fault_at line word name) }
+{
     ReadError::Text(TextFault { line, word, name })
 }

@@ -1,7 +1,6 @@
 use Rattle.std.proofs.Common.{rules, ◌≡◌, ◌∙◌, ℕ, ap, map, length}
 use Rattle.std.specs.List.{zip}
 use Rattle.std.proofs.lemmas.Result.{IfOk-weaker}
-use Rattle.gx_tree.specs.Volume.{Volume}
 use Rattle.gx_link.specs.Build.{lists_of, with_list}
 use Rattle.gx_link.specs.Text.{volumes_from}
 use Rattle.gx_link.proofs.Lists.{items_of, volumes-zip}

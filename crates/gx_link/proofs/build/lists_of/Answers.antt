@@ -1,4 +1,4 @@
-use Rattle.std.proofs.Common.{◌≡◌, ◌<◌, ◌++◌, ◌∷◌, [], List, length, take, ap, sym, ◌∙◌, map, set, get_or, subst, arith, Vec, Global}
+use Rattle.std.proofs.Common.{◌≡◌, ◌++◌, ◌∷◌, [], List, length, take, ap, sym, ◌∙◌, map, set, get_or, subst, arith}
 use Rattle.std.proofs.lemmas.List.{map-append, with_items_is}
 use Rattle.std.proofs.lemmas.List.FromFn.{map-range_with_len_more}
 use Rattle.gx_tree.specs.declared.placement.Placement.{Placement}

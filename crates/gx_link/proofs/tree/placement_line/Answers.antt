@@ -10,6 +10,6 @@ pub returns : goal.returns
 returns c =
     sym (option_map_id c.nth.result)
     ∙ nth_from_yields_List c.nth.result c.nth.new.self c.args.k c.nth.ensures.ran
-        (YieldsList-from_map _ (λ (p : LinkedPlacement). p.line)
-            (YieldsList-at c.map.ensures.source (YieldsList-from_filter _ (λ (p : LinkedPlacement). nat_eq p.mother c.args.mother) (YieldsList-at c.filter.ensures.source (YieldsList-from_slice c.args.placements.now cc)) c.filter.ensures.closure (λ x r q k. search (rules, tests))))
-            c.map.ensures.closure (λ x r q k. search rules))
+    (YieldsList-from_map _ (λ (p : LinkedPlacement). p.line)
+    (YieldsList-at c.map.ensures.source (YieldsList-from_filter _ (λ (p : LinkedPlacement). nat_eq p.mother c.args.mother) (YieldsList-at c.filter.ensures.source (YieldsList-from_slice c.args.placements.now cc)) c.filter.ensures.closure (λ x r q k. search (rules, tests))))
+    c.map.ensures.closure (λ x r q k. search rules))
