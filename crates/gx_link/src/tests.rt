@@ -163,17 +163,15 @@ fn faults_of_the_hierarchy(rt: HostRuntime) -> Result<(), Fail> {
     check(&rt, rt.alloc(), &rows)
 }
 
-// Volumes v0 to vN, each placed in the one before.
-fn chain(alloc: Global, last: u32) -> Result<String, Fail>
-    requires { last < 100 }
-{
+// So many volumes, each but the first placed in the one before.
+fn chain(alloc: Global, count: u32) -> Result<String, Fail> {
     let mut text = String::new(alloc);
-    for k in 0..=last {
+    for k in 0..count {
         text.push_str(&format!(in alloc; ":VOLU v{k} BOX 1 1 1 Air\n")?)?;
     }
     text.push_str(":ROTM r0 0 0 0\n")?;
-    for k in 0..last {
-        text.push_str(&format!(in alloc; ":PLACE v{} 1 v{k} r0 0 0 0\n", k + 1)?)?;
+    for k in 1..count {
+        text.push_str(&format!(in alloc; ":PLACE v{k} 1 v{} r0 0 0 0\n", k - 1)?)?;
     }
     Ok(text)
 }
@@ -181,9 +179,9 @@ fn chain(alloc: Global, last: u32) -> Result<String, Fail>
 #[test]
 fn a_chain_of_33_placements_is_too_deep(rt: HostRuntime) -> Result<(), Fail> {
     let alloc = rt.alloc();
-    let deep = answer(alloc, chain(alloc, 33)?.as_bytes())?;
+    let deep = answer(alloc, chain(alloc, 34)?.as_bytes())?;
     assert_eq!(rt; deep.as_str(), "fault 34 2 TooDeep");
-    let input = input_from(alloc, gathered(alloc, chain(alloc, 32)?.as_bytes())?)?;
+    let input = input_from(alloc, gathered(alloc, chain(alloc, 33)?.as_bytes())?)?;
     assert_eq!(rt; input.tree.count(), 33);
     assert_eq!(rt; input.tree.world(), 0);
     Ok(())
