@@ -1,3 +1,4 @@
+pub mod Build
 pub mod Crowd
 pub mod Links
 pub mod Text

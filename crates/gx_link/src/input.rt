@@ -1,10 +1,11 @@
-ghost use Rattle.std.specs.Prelude.{◌≡◌, ◌≤◌, length, All, IfOk, IfErr, Ok};
-ghost use Rattle.gx_gather.specs.Declarations.{Declarations};
+ghost use Rattle.std.specs.Prelude.{◌≡◌, IfOk, IfErr, Ok};
 ghost use Rattle.gx_gather.specs.Faults.{IsCause};
-ghost use Rattle.gx_gather.specs.Items.{IsItem};
 ghost use Rattle.gx_link.specs.Text.{input_of};
 
-use gx_gather::{Gathered, Rays, ReadError};
+use crate::known::Known;
+use crate::link::link;
+use crate::tree::tree_from;
+use gx_gather::{Gathered, Parts, Rays, ReadError};
 use gx_tree::Hierarchy;
 use std::alloc::Global;
 
@@ -20,5 +21,19 @@ pub fn input_from(alloc: Global, gathered: Gathered) -> Result<Input, ReadError>
     ensures ok { IfOk result (λ input. input_of gathered.so_far ≡ Ok input) }
     ensures err { IfErr result (IsCause (input_of gathered.so_far)) }
 {
-    todo!()
+    let Parts {
+        solids,
+        turns,
+        volumes,
+        items,
+        rays,
+    } = gathered.into_parts();
+    let known = Known {
+        solids,
+        turns,
+        volumes,
+    };
+    let links = link(alloc, &known, items)?;
+    let tree = tree_from(alloc, links)?;
+    Ok(Input { tree, rays })
 }

@@ -1,0 +1,4 @@
+mod Daughters
+mod Limits
+mod Linked
+mod Lists
