@@ -1,0 +1,11 @@
+use Rattle.std.proofs.Common.{◌-◌}
+use Rattle.g4exact.specs.Ends.{most_read}
+use Rattle.g4exact.proofs.Feeding.{Fed}
+use Rattle.g4exact.proofs.input.read_input.Given as goal
+
+abbrev pub invariant-reads : goal.invariant-reads
+invariant-reads g l =
+    Fed l.grid (g.S.Source.left l.initial.source) (g.S.Source.left l.source) (g.S.Source.faults l.initial.source) (g.S.Source.faults l.source) l.reader l.count
+
+abbrev pub decreases-reads : goal.decreases-reads
+decreases-reads g l = most_read - l.count
