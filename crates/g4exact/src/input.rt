@@ -1,4 +1,4 @@
-ghost use Rattle.std.specs.Prelude.{◌≡◌, ℕ, List, [], IfOk, IfErr, OnOk, OnErr, IsErrOf};
+ghost use Rattle.std.specs.Prelude.{◌≡◌, ◌<◌, ◌++◌, ℕ, List, [], length, IfOk, IfErr, OnOk, OnErr, IsErrOf};
 ghost use Rattle.gx_io.specs.Bytes.{next_fault};
 ghost use Rattle.gx_io.specs.declared.error.IoError.TheVariants.{NoMemory};
 ghost use Rattle.gx_reader.specs.Reader.{read_as};
@@ -30,20 +30,34 @@ pub fn read_input<S: Source>(
     ensures last { IsErrOf result IoError.Failed → (before : S) × (S.faults before ≡ S.faults source.old) × S.fails before source.new }
     ensures no_memory { IsErrOf result IoError.NoMemory → S.faults source.new ≡ S.faults source.old }
 {
-    let mut space = vec![in alloc; 0u8; PIECE]?;
-    let buffer = space.as_mut_slice();
+    let mut buffer = vec![in alloc; 0u8; PIECE]?;
     let mut reader = Reader::new(alloc, *grid);
+    feed(&mut reader, source, buffer.as_mut_slice())?;
+    finish(reader)
+}
+
+// Feeds a reader what the source has, as much of it at once as the buffer takes.
+fn feed<S: Source>(reader: &mut Reader, source: &mut S, buffer: &mut [u8]) -> Result<(), IoError>
+    requires { 0 < length buffer.old }
+    ensures ok { OnOk result ((text : List ℕ) × IsReadWhole (S.left source.old) (S.left source.new) text
+        × ((later : List ℕ) → read_as reader.new later ≡ read_as reader.old (text ++ later))) }
+    ensures err { OnErr result (IsReadFrom (S.left source.old) (S.left source.new)) }
+    ensures kept { OnOk result (S.faults source.new ≡ S.faults source.old) }
+    ensures failed { IsErrOf result IoError.Failed → S.faults source.new ≡ next_fault (S.faults source.old) }
+    ensures last { IsErrOf result IoError.Failed → (before : S) × (S.faults before ≡ S.faults source.old) × S.fails before source.new }
+    ensures no_memory { IsErrOf result IoError.NoMemory → S.faults source.new ≡ S.faults source.old }
+{
     let mut count = 0;
     'reads: while count < MOST_READ {
         let most = (MOST_READ - count).min(buffer.len());
         let n = source.read(&mut buffer[..most])?;
         if n == 0 {
-            return finish(reader);
+            return Ok(());
         }
         reader.feed(&buffer[..n])?;
         count += n;
     }
-    finish(reader)
+    Ok(())
 }
 
 // What a reader makes of no more bytes.
