@@ -1,7 +1,8 @@
 -- A reader that is fed from a source: what holds between two reads, and what was read in the end.
-use Rattle.std.proofs.Common.{◌≡◌, ℕ, ◌+◌, ◌<◌, ◌≤◌, List, [], ◌++◌, length, Option, Result, Ok, Err, refl, sym, ap, ◌∙◌, arith, append_assoc, append-nil, length-append}
+use Rattle.std.proofs.Common.{◌≡◌, ℕ, ◌+◌, ◌<◌, ◌≤◌, List, [], ◌++◌, length, Option, Result, Ok, Err, IfOk, OnOk, OnErr, refl, sym, ap, ◌∙◌, arith, append_assoc, append-nil, length-append}
 use Rattle.std.specs.Io.KnownBytes.{IsAtEnd}
 use Rattle.gx_io.specs.Bytes.{with_before}
+use Rattle.gx_io.specs.declared.error.IoError.{IoError}
 use Rattle.gx_io.proofs.Joined.{with_before-twice, with_before-nothing}
 use Rattle.gx_fraction.specs.Fraction.{Fraction}
 use Rattle.gx_reader.specs.declared.fault.TextFault.{TextFault}
@@ -56,3 +57,27 @@ read_whole grid first reader text read begins reads is =
     same_answer (Ok a) (Err b) e = absurd cc
     same_answer (Err a) (Ok b) e = absurd cc
     same_answer (Err a) (Err b) e = cc
+
+-- nothing was taken
+pub from_nothing : (left : Option (List ℕ)) → IsReadFrom left left
+from_nothing left = ([], omega arith, sym (with_before-nothing left))
+
+-- what a fed reader gives at the end
+module _ (old new : Option (List ℕ)) (first reader : ReaderState)
+    (fed : (text : List ℕ) × IsReadWhole old new text × ((later : List ℕ) → read_as reader later ≡ read_as first (text ++ later))) where
+  pub finished : (grid : Fraction) (result : Result (Result Input TextFault) IoError) → Begins grid first → IfOk result (λ read. read_as reader [] ≡ answered read)
+      → IfOk result (λ read. (text : List ℕ) × IsReadWhole old new text × (reading grid text ≡ read))
+  finished grid (Ok read) begins is = (fed.0, fed.1, read_whole grid first reader fed.0 read begins fed.2 is)
+  finished grid (Err error) begins is = tt
+
+  pub finished_from : (result : Result (Result Input TextFault) IoError) → OnErr result (IsReadFrom old new)
+  finished_from (Ok read) = tt
+  finished_from (Err error) = (fed.0, fed.1.most, fed.1.taken)
+
+-- what holds anyway, where there is a value
+pub at_ok : {T E P : Type 0} (result : Result T E) → P → OnOk result P
+at_ok (Ok value) p = p
+at_ok (Err error) p = tt
+
+pub err_same : {T E : Type 0} (a b : E) → ◌≡◌ {A = Result T E} (Err a) (Err b) → a ≡ b
+err_same a b e = cc

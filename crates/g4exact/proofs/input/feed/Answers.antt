@@ -40,4 +40,4 @@ returns-then-n-eq0-clause-ok g c =
     let bound : n ≤ length bytes = c.in_ok-n.ensures.bound in
     let most : c.reads.count + n ≤ most_read = omega (arith, none, c.reads.invariant.fed.most) in
     fed_whole _ _ _ c.reads.reader _ (fed_more _ _ _ c.reads.reader c.reads.count c.reads.invariant.fed _ c.reads.reader (take n bytes) n c.in_ok-n.ensures.bytes
-      (omega (arith, length-take n bytes, bound)) most (λ later. rw none refl)) (λ short. c.in_ok-n.ensures.end none)
+    (omega (arith, length-take n bytes, bound)) most (λ later. rw none refl)) (λ short. c.in_ok-n.ensures.end none)
