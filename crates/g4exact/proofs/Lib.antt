@@ -1,2 +1,3 @@
+pub mod Feeding
 pub mod Runs
 pub mod Traces

@@ -1,5 +1,5 @@
 -- How a run's parts make its clauses.
-use Rattle.std.proofs.Common.{◌≡◌, ◌⊎◌, ℕ, ◌<◌, ◌≤◌, inl, inr, true, List, [], ◌++◌, length, drop, Option, None, Some, Ok, Err, refl, sym, ap, ◌∙◌, subst, arith, length-append, append-nil}
+use Rattle.std.proofs.Common.{◌≡◌, ◌⊎◌, ℕ, ◌<◌, ◌≤◌, inl, inr, true, List, [], ◌++◌, length, drop, Option, None, Some, Result, Ok, Err, refl, sym, ap, ◌∙◌, subst, arith, length-append, append-nil}
 use Rattle.std.specs.Prelude.{nat_lt}
 use Rattle.std.specs.Option.{option_map}
 use Rattle.std.specs.Io.KnownBytes.{IsAtEnd}
@@ -9,6 +9,7 @@ use Rattle.std.proofs.lemmas.List.{drop_all, drop_at}
 use Rattle.gx_io.specs.Bytes.{with_before}
 use Rattle.gx_fraction.specs.Fraction.{Fraction}
 use Rattle.gx_table.specs.declared.fault.FaultName.TheVariants.{LongText}
+use Rattle.gx_reader.specs.declared.fault.TextFault.{TextFault}
 use Rattle.gx_reader.specs.declared.input.Input.{Input}
 use Rattle.gx_reader.specs.Reading.{reading, fault_at}
 use Rattle.gx_reader.specs.declared.reader.TheConstants.{MAX_TEXT}
@@ -19,7 +20,7 @@ use Rattle.g4exact.specs.declared.command.Command.TheVariants.{Reading}
 use Rattle.g4exact.specs.declared.command.Verb.{Verb}
 use Rattle.g4exact.specs.declared.command.Verb.TheVariants.{Trace}
 use Rattle.g4exact.specs.Output.{IsOutput, IsAnswer, IsWritten}
-use Rattle.g4exact.specs.Ends.{WritesAll, Wants, Ends, IsTold, Blames, HasFailed, Answers, IsReadOut, most_read}
+use Rattle.g4exact.specs.Ends.{WritesAll, Wants, Ends, IsTold, Blames, HasFailed, Answers, IsReadOut, IsReadWhole, most_read}
 
 -- some text is told
 pub told : (left : Option (List ℕ)) → (text : List ℕ) × IsTold left text
@@ -50,12 +51,12 @@ pub record ReadsAll (left left' : Option (List ℕ)) (taken : List ℕ) : Type 0
   pub same : (grid : Fraction) → reading grid text ≡ reading grid taken
   pub rest : left' ≡ option_map (drop most_read) left
 
-pub reads_all : (left left' : Option (List ℕ)) (taken : List ℕ) → left ≡ with_before taken left' → length taken ≤ most_read → (length taken < most_read → IsAtEnd left') → ReadsAll left left' taken
+reads_told : (left left' : Option (List ℕ)) (taken : List ℕ) → left ≡ with_before taken left' → length taken ≤ most_read → (length taken < most_read → IsAtEnd left') → ReadsAll left left' taken
 unfolding with_before
-reads_all None None taken e h end = record { text = taken; told = tt; same = λ grid. refl; rest = refl }
-reads_all None (Some rest) taken e h end = absurd cc
-reads_all (Some text) None taken e h end = absurd cc
-reads_all (Some text) (Some rest) taken e h end =
+reads_told None None taken e h end = record { text = taken; told = tt; same = λ grid. refl; rest = refl }
+reads_told None (Some rest) taken e h end = absurd cc
+reads_told (Some text) None taken e h end = absurd cc
+reads_told (Some text) (Some rest) taken e h end =
     elim (cases_lt (length taken) most_read) [
       | inl short ↦
           let all : text ≡ taken = some_same text (taken ++ rest) e ∙ ap (λ l. taken ++ l) (end short) ∙ append-nil taken in
@@ -74,10 +75,13 @@ reads_all (Some text) (Some rest) taken e h end =
     long_text : (text taken rest : List ℕ) → text ≡ taken ++ rest → most_read ≤ length taken → MAX_TEXT < length text
     long_text text taken rest q l = omega (arith, ap length q, length-append taken rest)
 
--- texts that read as one have one output
-pub same_output : (verb : Verb) (grid : Fraction) (text taken : List ℕ) (old new : Option (List ℕ)) (status : Status) → ((grid : Fraction) → reading grid text ≡ reading grid taken)
-    → Ends (Some (Reading verb grid)) (IsAnswer verb (reading grid taken)) old new status → Ends (Some (Reading verb grid)) (IsOutput (Some (Reading verb grid)) text) old new status
-same_output verb grid text taken old new status e h = subst (λ read. Ends (Some (Reading verb grid)) (IsAnswer verb read) old new status) (sym (e grid)) h
+pub reads_all : (left left' : Option (List ℕ)) (taken : List ℕ) → IsReadWhole left left' taken → ReadsAll left left' taken
+reads_all left left' taken read = reads_told left left' taken read.taken read.most read.all
+
+-- what answers what was read is the output for a text that reads as it
+pub same_output : (verb : Verb) (grid : Fraction) (text : List ℕ) (read : Result Input TextFault) (old new : Option (List ℕ)) (status : Status) → reading grid text ≡ read
+    → Ends (Some (Reading verb grid)) (IsAnswer verb read) old new status → Ends (Some (Reading verb grid)) (IsOutput (Some (Reading verb grid)) text) old new status
+same_output verb grid text read old new status e h = subst (λ answer. Ends (Some (Reading verb grid)) (IsAnswer verb answer) old new status) (sym e) h
 
 -- what a verb writes of an input answers a text that reads as it
 pub written_by : (verb : Verb) (grid : Fraction) (input : Input) (old new : Option (List ℕ)) (status : Status) → ((grid : Fraction) → Ends (Some (Reading Trace grid)) (IsWritten Trace input) old new status)
@@ -89,14 +93,14 @@ pub wants_nothing : (verb : Verb) (grid : Fraction) (output : List ℕ → Statu
 wants_nothing Trace grid output written = refl
 
 -- a source that was read out is so at each status
-pub read_out : (old new : Option (List ℕ)) (taken : List ℕ) (status : Status) → length taken ≤ most_read → old ≡ with_before taken new → new ≡ option_map (drop most_read) old → IsReadOut old new status
-read_out old new taken Clean h b e = e
-read_out old new taken Refuted h b e = e
-read_out old new taken Faulty h b e = e
-read_out old new taken WordsFault h b e = e
-read_out old new taken ReadFault h b e = (taken, h, b)
-read_out old new taken WriteFault h b e = e
-read_out old new taken NoMemory h b e = (taken, h, b)
+pub read_out : (old new : Option (List ℕ)) (text : List ℕ) (status : Status) → IsReadWhole old new text → new ≡ option_map (drop most_read) old → IsReadOut old new status
+read_out old new text Clean read out = out
+read_out old new text Refuted read out = out
+read_out old new text Faulty read out = out
+read_out old new text WordsFault read out = out
+read_out old new text ReadFault read out = (text, read.most, read.taken)
+read_out old new text WriteFault read out = out
+read_out old new text NoMemory read out = (text, read.most, read.taken)
 
 -- what blames the sink alone, whatever the source's count is, is no read fault
 pub no_read_fault : (k k' : ℕ) (status : Status) → ((n : ℕ) → Blames n n k k' status) → status ≡ ReadFault → ⊥

@@ -1,6 +1,7 @@
 -- How a run ends: what it has read and written, by its status.
-use Rattle.std.specs.Prelude.{◌≡◌, ◌⊎◌, ℕ, ◌+◌, ◌≤◌, List, length, drop, Option, None, Some, Result}
+use Rattle.std.specs.Prelude.{◌≡◌, ◌⊎◌, ℕ, ◌+◌, ◌<◌, ◌≤◌, List, length, drop, Option, None, Some, Result}
 use Rattle.std.specs.Option.{option_map}
+use Rattle.std.specs.Io.KnownBytes.{IsAtEnd}
 use Rattle.gx_io.specs.Bytes.{with_after, with_before, next_fault, AppendsFront, Writes}
 use Rattle.gx_io.specs.declared.fault.Failed.{Failed}
 use Rattle.gx_reader.specs.declared.input.Input.{Input}
@@ -48,6 +49,12 @@ most_read = 1 + MAX_TEXT
 -- some bytes were taken, and no more than that
 abbrev pub IsReadFrom : Option (List ℕ) → Option (List ℕ) → Type 0
 IsReadFrom old new = (taken : List ℕ) × (length taken ≤ most_read) × (old ≡ with_before taken new)
+
+-- a text was taken: all that there was, or as much as that
+pub record IsReadWhole (old new : Option (List ℕ)) (text : List ℕ) : Type 0 where
+  pub taken : old ≡ with_before text new
+  pub most : length text ≤ most_read
+  pub all : length text < most_read → IsAtEnd new
 
 -- The source isn't touched where the words are no command. Else as much as that is read, or all there is;
 -- where it failed or memory was wanting, some of it.

@@ -1,5 +1,5 @@
 ghost use Rattle.std.specs.Prelude.{◌≡◌, ℕ, Some};
-ghost use Rattle.gx_reader.specs.Reading.{reading};
+ghost use Rattle.gx_fraction.specs.Fraction.{Fraction};
 ghost use Rattle.gx_print.specs.Texts.{fault_line};
 ghost use Rattle.g4exact.specs.declared.command.Command.TheVariants.{Reading};
 ghost use Rattle.g4exact.specs.Output.{IsAnswer};
@@ -8,10 +8,9 @@ ghost use Rattle.g4exact.specs.Ends.{Ends, Blames};
 use crate::command::Verb;
 use crate::outcome::Status;
 use crate::trace::trace;
-use gx_expr::Grid;
 use gx_io::{Buffer, Failed, Print, Sink, print_buffered};
 use gx_print::print_fault;
-use gx_reader::{ReadError, TextFault, read_text};
+use gx_reader::{Input, TextFault};
 use std::alloc::Global;
 
 // The line of a text's fault.
@@ -28,22 +27,26 @@ impl Print for FaultLine {
     }
 }
 
-/// Writes the line of a text's fault; or where there is none, what the verb writes.
-pub fn answer<K: Sink>(alloc: Global, verb: Verb, grid: &Grid, text: &[u8], sink: &mut K) -> Status
-    ensures output { Ends (Some (Reading verb grid.now)) (IsAnswer verb (reading grid.now text.now)) (K.written sink.old) (K.written sink.new) result }
+/// Writes what was read of a text: the line of its fault; or where there is none, what the verb writes.
+pub fn answer<K: Sink>(
+    alloc: Global,
+    verb: Verb,
+    read: Result<Input, TextFault>,
+    sink: &mut K,
+) -> Status
+    ensures output { (grid : Fraction) → Ends (Some (Reading verb grid)) (IsAnswer verb read) (K.written sink.old) (K.written sink.new) result }
     ensures blames { (source : ℕ) → Blames source source (K.faults sink.old) (K.faults sink.new) result }
 {
     let Ok(buffer) = Buffer::new(alloc) else {
         return Status::NoMemory;
     };
-    match read_text(alloc, grid, text) {
+    match read {
         Ok(input) => match verb {
             Verb::Trace => trace(input, buffer, sink),
         },
-        Err(ReadError::Text(fault)) => match print_buffered(buffer, sink, &FaultLine { fault }) {
+        Err(fault) => match print_buffered(buffer, sink, &FaultLine { fault }) {
             Ok(()) => Status::TextFault,
             Err(Failed) => Status::WriteFault,
         },
-        Err(ReadError::NoMemory) => Status::NoMemory,
     }
 }

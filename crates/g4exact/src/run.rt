@@ -7,11 +7,11 @@ ghost use Rattle.g4exact.specs.Ends.{Ends, IsTold, IsRead, JudgesWords, NamesWor
 
 use crate::answer::answer;
 use crate::command::{Command, Verb, command_from};
+use crate::input::read_input;
 use crate::outcome::Status;
 use gx_expr::Grid;
-use gx_io::{ReadError, Sink, Source, read_up_to};
+use gx_io::{IoError, Sink, Source};
 use gx_print::print_usage;
-use gx_reader::MAX_TEXT;
 use gx_steps::Steps;
 use std::alloc::Global;
 use std::sync::ledger::Ledger;
@@ -85,10 +85,10 @@ fn read<S: Source, K: Sink>(
     ensures blames { Blames (S.faults source.old) (S.faults source.new) (K.faults sink.old) (K.faults sink.new) result }
     ensures last { result ≡ ReadFault → (before : S) × (S.faults before ≡ S.faults source.old) × S.fails before source.new }
 {
-    match read_up_to(alloc, source, MAX_TEXT + 1) {
-        Ok(text) => answer(alloc, verb, grid, &text, sink),
-        Err(ReadError::Failed) => Status::ReadFault,
-        Err(ReadError::NoMemory) => Status::NoMemory,
+    match read_input(alloc, grid, source) {
+        Ok(read) => answer(alloc, verb, read, sink),
+        Err(IoError::Failed) => Status::ReadFault,
+        Err(IoError::NoMemory) => Status::NoMemory,
     }
 }
 

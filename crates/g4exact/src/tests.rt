@@ -164,7 +164,8 @@ fn lines_and_texts_have_their_limits(rt: HostRuntime) -> Result<(), Fail> {
         };
         check(&rt, alloc, &case)?;
     }
-    let long = vec![in alloc; b'\n'; 67108865]?;
+    // a text's length is judged before its lines
+    let long = vec![in alloc; b'/'; 67108865]?;
     let mut source = MemSource::new(long, 1 << 20, Vec::new(alloc));
     let mut sink = MemSink::new(alloc, 100, 100, Vec::new(alloc))?;
     let status = run_on(alloc, &TRACE, &mut source, &mut sink)?;

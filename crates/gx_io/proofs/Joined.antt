@@ -50,6 +50,3 @@ writes-second old new a b (Err e) h = record { all = tt; front = front-of_second
 
 -- what a function that writes in turn is proved with
 pub ruleset joined = (with_after-twice, with_after-nothing, front-of_first, front-of_second, front-nothing, writes-second)
-
--- what a function that reads in turn is proved with
-pub ruleset read_on = (with_before-twice, with_before-nothing)
