@@ -5,8 +5,8 @@ use Rattle.gx_io.specs.Bytes.{with_before}
 use Rattle.gx_io.specs.declared.error.IoError.{IoError}
 use Rattle.gx_io.proofs.Joined.{with_before-twice, with_before-nothing}
 use Rattle.gx_fraction.specs.Fraction.{Fraction}
-use Rattle.gx_reader.specs.declared.fault.TextFault.{TextFault}
-use Rattle.gx_reader.specs.declared.input.Input.{Input}
+use Rattle.gx_gather.specs.declared.fault.TextFault.{TextFault}
+use Rattle.gx_link.specs.declared.input.Input.{Input}
 use Rattle.gx_reader.specs.Reader.{ReaderState, Begins, read_as}
 use Rattle.gx_reader.specs.Reading.{reading}
 use Rattle.gx_reader.specs.Resumed.{answered}

@@ -9,9 +9,10 @@ use Rattle.std.proofs.lemmas.List.{drop_all, drop_at}
 use Rattle.gx_io.specs.Bytes.{with_before}
 use Rattle.gx_fraction.specs.Fraction.{Fraction}
 use Rattle.gx_table.specs.declared.fault.FaultName.TheVariants.{LongText}
-use Rattle.gx_reader.specs.declared.fault.TextFault.{TextFault}
-use Rattle.gx_reader.specs.declared.input.Input.{Input}
-use Rattle.gx_reader.specs.Reading.{reading, fault_at}
+use Rattle.gx_gather.specs.declared.fault.TextFault.{TextFault}
+use Rattle.gx_link.specs.declared.input.Input.{Input}
+use Rattle.gx_gather.specs.Faults.{fault_at}
+use Rattle.gx_reader.specs.Reading.{reading}
 use Rattle.gx_reader.specs.declared.reader.TheConstants.{MAX_TEXT}
 use Rattle.g4exact.specs.declared.outcome.Status.{Status}
 use Rattle.g4exact.specs.declared.outcome.Status.TheVariants.{Clean, Refuted, TextFault as Faulty, WordsFault, ReadFault, WriteFault, NoMemory}

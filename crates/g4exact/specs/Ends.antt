@@ -4,7 +4,7 @@ use Rattle.std.specs.Option.{option_map}
 use Rattle.std.specs.Io.KnownBytes.{IsAtEnd}
 use Rattle.gx_io.specs.Bytes.{with_after, with_before, next_fault, AppendsFront, Writes}
 use Rattle.gx_io.specs.declared.fault.Failed.{Failed}
-use Rattle.gx_reader.specs.declared.input.Input.{Input}
+use Rattle.gx_link.specs.declared.input.Input.{Input}
 use Rattle.gx_reader.specs.declared.reader.TheConstants.{MAX_TEXT}
 use Rattle.g4exact.specs.Output.{IsTrace, IsOutput}
 use Rattle.g4exact.specs.declared.command.Command.{Command}

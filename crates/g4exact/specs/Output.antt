@@ -3,9 +3,13 @@ use Rattle.std.specs.Prelude.{◌≡◌, ℕ, ◌+◌, List, [], ◌∷◌, ◌+
 use Rattle.std.specs.List.{flat_map}
 use Rattle.gx_num.specs.declared.ray.Ray.{Ray}
 use Rattle.gx_path.specs.Report.{Row, IsReport}
-use Rattle.gx_tree.specs.World.{World, path_along}
-use Rattle.gx_reader.specs.declared.fault.TextFault.{TextFault}
-use Rattle.gx_reader.specs.declared.input.Input.{Input}
+use Rattle.gx_table.specs.declared.fault.FaultName.TheVariants.{NotBuilt}
+use Rattle.gx_tree.specs.declared.instance.Instance.{Instance}
+use Rattle.gx_tree.specs.Hierarchy.{Hierarchy, volume_at, instances}
+use Rattle.gx_tree.specs.Deepest.{path_along}
+use Rattle.gx_gather.specs.declared.fault.TextFault.{TextFault}
+use Rattle.gx_gather.specs.Faults.{fault_at}
+use Rattle.gx_link.specs.declared.input.Input.{Input}
 use Rattle.gx_reader.specs.Reading.{reading}
 use Rattle.gx_print.specs.Texts.{usage_line, ray_head, row_text, fault_line}
 use Rattle.g4exact.specs.declared.command.Command.{Command}
@@ -15,23 +19,35 @@ use Rattle.g4exact.specs.declared.command.Verb.TheVariants.{Trace}
 use Rattle.g4exact.specs.declared.outcome.Status.{Status}
 use Rattle.g4exact.specs.declared.outcome.Status.TheVariants.{Clean, TextFault as Faulty, WordsFault}
 
--- a ray's head, and its rows
-abbrev pub ray_text : World → ℕ → List Row → List ℕ
+abbrev pub world_name : Hierarchy → List ℕ
+world_name h = (volume_at h.volumes h.world).name
+
+-- a ray's head, and its rows, in a world of this name
+abbrev pub ray_text : List ℕ → ℕ → List Row → List ℕ
 ray_text world number rows = ray_head number ++ flat_map (row_text world) rows
 
 -- for each ray, numbered from here on, its head and the rows of its report
-abbrev pub IsTrace : World → ℕ → List Ray → List ℕ → Type 0
-IsTrace world number [] bytes = bytes ≡ []
-IsTrace world number (ray ∷ rays) bytes =
-    (rows : List Row) × (rest : List ℕ) × IsReport (path_along world ray) rows × IsTrace world (number + 1) rays rest × (bytes ≡ ray_text world number rows ++ rest)
+abbrev pub IsTrace : Hierarchy → ℕ → List Ray → List ℕ → Type 0
+IsTrace h number [] bytes = bytes ≡ []
+IsTrace h number (ray ∷ rays) bytes =
+    (rows : List Row) × (rest : List ℕ) × IsReport (path_along h ray) rows × IsTrace h (number + 1) rays rest × (bytes ≡ ray_text (world_name h) number rows ++ rest)
+
+-- the line of a text's fault
+abbrev pub IsFault : TextFault → List ℕ → Status → Type 0
+IsFault fault bytes status = (bytes ≡ fault_line fault) × (status ≡ Faulty)
+
+-- a hierarchy whose world has daughters isn't traced yet
+abbrev pub IsTraced : List Instance → Input → List ℕ → Status → Type 0
+IsTraced [] input bytes status = IsTrace input.tree 1 input.rays bytes × (status ≡ Clean)
+IsTraced (daughter ∷ daughters) input bytes status = IsFault (fault_at 0 0 NotBuilt) bytes status
 
 -- what a verb writes of an input
 abbrev pub IsWritten : Verb → Input → List ℕ → Status → Type 0
-IsWritten Trace input bytes status = IsTrace input.tree 1 input.rays bytes × (status ≡ Clean)
+IsWritten Trace input bytes status = IsTraced (instances input.tree input.tree.world) input bytes status
 
 -- the line of the text's fault; or where there is none, what the verb writes
 abbrev pub IsAnswer : Verb → Result Input TextFault → List ℕ → Status → Type 0
-IsAnswer verb (Err fault) bytes status = (bytes ≡ fault_line fault) × (status ≡ Faulty)
+IsAnswer verb (Err fault) bytes status = IsFault fault bytes status
 IsAnswer verb (Ok input) bytes status = IsWritten verb input bytes status
 
 -- the output of a command for a text; words that are no command have the usage line

@@ -1,31 +1,17 @@
 ghost use Rattle.std.specs.Prelude.{◌≡◌, ℕ, Some};
 ghost use Rattle.gx_fraction.specs.Fraction.{Fraction};
-ghost use Rattle.gx_print.specs.Texts.{fault_line};
 ghost use Rattle.g4exact.specs.declared.command.Command.TheVariants.{Reading};
 ghost use Rattle.g4exact.specs.Output.{IsAnswer};
 ghost use Rattle.g4exact.specs.Ends.{Ends, Blames};
 
 use crate::command::Verb;
+use crate::fault::write_fault;
 use crate::outcome::Status;
 use crate::trace::trace;
-use gx_io::{Buffer, Failed, Print, Sink, print_buffered};
-use gx_print::print_fault;
-use gx_reader::{Input, TextFault};
+use gx_gather::TextFault;
+use gx_io::{Buffer, Sink};
+use gx_link::Input;
 use std::alloc::Global;
-
-// The line of a text's fault.
-#[derive(Drop)]
-struct FaultLine {
-    fault: TextFault,
-}
-
-impl Print for FaultLine {
-    ghost prints = { λ line bytes. bytes ≡ fault_line line.fault };
-
-    fn print<K: Sink>(&self, sink: &mut K) -> Result<(), Failed> {
-        print_fault(&self.fault, sink)
-    }
-}
 
 /// Writes what was read of a text: the line of its fault; or where there is none, what the verb writes.
 pub fn answer<K: Sink>(
@@ -44,9 +30,6 @@ pub fn answer<K: Sink>(
         Ok(input) => match verb {
             Verb::Trace => trace(input, buffer, sink),
         },
-        Err(fault) => match print_buffered(buffer, sink, &FaultLine { fault }) {
-            Ok(()) => Status::TextFault,
-            Err(Failed) => Status::WriteFault,
-        },
+        Err(fault) => write_fault(fault, buffer, sink),
     }
 }

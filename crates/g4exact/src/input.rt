@@ -7,8 +7,10 @@ ghost use Rattle.gx_reader.specs.Resumed.{answered};
 ghost use Rattle.g4exact.specs.Ends.{IsReadFrom, IsReadWhole};
 
 use gx_expr::Grid;
+use gx_gather::{ReadError, TextFault};
 use gx_io::{IoError, PIECE, Source};
-use gx_reader::{Input, MAX_TEXT, ReadError, Reader, TextFault};
+use gx_link::Input;
+use gx_reader::{MAX_TEXT, Reader};
 use std::alloc::Global;
 
 // One byte past the most of a text.

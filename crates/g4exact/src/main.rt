@@ -3,6 +3,7 @@
 
 mod answer;
 mod command;
+mod fault;
 mod input;
 mod outcome;
 mod run;

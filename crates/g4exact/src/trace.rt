@@ -1,68 +1,82 @@
-ghost use Rattle.std.specs.Prelude.{◌≡◌, [], List, ℕ, Some};
+ghost use Rattle.std.specs.Prelude.{◌≡◌, [], ◌∷◌, List, ℕ, Some, true, false};
 ghost use Rattle.gx_io.specs.Bytes.{HasCause, Writes};
-ghost use Rattle.gx_reader.specs.Rays.{IsTraceable};
-ghost use Rattle.gx_tree.specs.World.{path_along};
+ghost use Rattle.gx_gather.specs.Rays.{IsTraceable};
+ghost use Rattle.gx_tree.specs.declared.instance.Instance.{Instance};
+ghost use Rattle.gx_tree.specs.Hierarchy.{instances};
+ghost use Rattle.gx_tree.specs.Deepest.{path_along};
 ghost use Rattle.gx_path.specs.Report.{Row, IsReport};
 ghost use Rattle.gx_navigator.specs.Rows.{rows_of};
-ghost use Rattle.g4exact.specs.Output.{ray_text, IsTrace, IsWritten};
+ghost use Rattle.g4exact.specs.Output.{world_name, ray_text, IsTrace, IsWritten};
 ghost use Rattle.g4exact.specs.declared.command.Command.TheVariants.{Reading};
 ghost use Rattle.g4exact.specs.declared.command.Verb.TheVariants.{Trace};
 ghost use Rattle.gx_fraction.specs.Fraction.{Fraction};
 ghost use Rattle.g4exact.specs.Ends.{Ends, Blames, WritesTrace};
 
+use crate::fault::write_fault;
 use crate::outcome::Status;
 use gx_clip::Span;
+use gx_gather::TextFault;
 use gx_io::{Buffer, Failed, Print, Sink, print_buffered};
+use gx_link::Input;
 use gx_navigator::world_span;
 use gx_num::Ray;
 use gx_print::{print_ray, print_row};
-use gx_reader::Input;
-use gx_tree::World;
+use gx_table::FaultName;
+use gx_tree::Hierarchy;
 
 // Writes a ray's head, and the row of a span.
 #[tactic(auto, using(gx_io::proofs::Joined::joined))]
 fn print_span<K: Sink>(
-    tree: &World,
+    world: &[u8],
     number: u32,
     span: &Option<Span>,
     sink: &mut K,
 ) -> Result<(), Failed>
-    ensures bytes { Writes (K.written sink.old) (K.written sink.new) (ray_text tree.now number (rows_of span.now)) result }
+    ensures bytes { Writes (K.written sink.old) (K.written sink.new) (ray_text world.now number (rows_of span.now)) result }
     ensures cause { HasCause (K.faults sink.old) (K.faults sink.new) result }
 {
     print_ray(number, sink)?;
     match span {
-        Some(span) => print_row(tree, span, sink),
+        Some(span) => print_row(world, span, sink),
         None => Ok(()),
     }
 }
 
 // Writes the head and the report of the n-th ray.
-fn print_report<K: Sink>(tree: &World, number: u32, ray: &Ray, sink: &mut K) -> Result<(), Failed>
-    requires { IsTraceable ray.now }
-    ensures bytes { (rows : List Row) × IsReport (path_along tree.now ray.now) rows × Writes (K.written sink.old) (K.written sink.new) (ray_text tree.now number rows) result }
+fn print_report<K: Sink>(
+    tree: &Hierarchy,
+    number: u32,
+    ray: &Ray,
+    sink: &mut K,
+) -> Result<(), Failed>
+    requires alone { instances tree.now tree.now.world ≡ [] }
+    requires ray { IsTraceable ray.now }
+    ensures bytes { (rows : List Row) × IsReport (path_along tree.now ray.now) rows × Writes (K.written sink.old) (K.written sink.new) (ray_text (world_name tree.now) number rows) result }
     ensures cause { HasCause (K.faults sink.old) (K.faults sink.new) result }
 {
-    print_span(tree, number, &world_span(tree, ray), sink)
+    let world = tree.name(tree.world());
+    print_span(world, number, &world_span(tree, ray), sink)
 }
 
 /// Writes each ray's head and report.
 fn print_reports<K: Sink>(input: &Input, sink: &mut K) -> Result<(), Failed>
+    requires alone { instances input.now.tree input.now.tree.world ≡ [] }
     ensures bytes { WritesTrace input.now (K.written sink.old) (K.written sink.new) result }
     ensures cause { HasCause (K.faults sink.old) (K.faults sink.new) result }
 {
     // What the world's solid keeps is known from here on.
-    let _ = input.tree.solid();
+    let _ = input.tree.solid(input.tree.world());
     for i in 0..input.rays.count() {
         print_report(&input.tree, i + 1, &input.rays.ray(i), sink)?;
     }
     Ok(())
 }
 
-// The reports of an input's rays.
+// The reports of an input's rays, whose world has no daughters.
 #[derive(Drop)]
 struct Reports {
     input: Input,
+    ghost alone: { instances input.tree input.tree.world ≡ [] },
 }
 
 impl Print for Reports {
@@ -73,12 +87,28 @@ impl Print for Reports {
     }
 }
 
-/// Writes the reports of an input's rays, in large pieces.
+// The world has no daughters.
+fn is_alone(tree: &Hierarchy) -> bool
+    ensures alone { result ≡ true → instances tree.now tree.now.world ≡ [] }
+    ensures daughters { result ≡ false → (i : Instance) × (is : List Instance) × (instances tree.now tree.now.world ≡ i ∷ is) }
+{
+    tree.instances(tree.world()) == 0
+}
+
+/// Writes the reports of an input's rays, in large pieces. A hierarchy whose world has daughters isn't traced yet.
 pub fn trace<K: Sink>(input: Input, buffer: Buffer, sink: &mut K) -> Status
     requires { buffer ≡ [] }
     ensures output { (grid : Fraction) → Ends (Some (Reading Trace grid)) (IsWritten Trace input) (K.written sink.old) (K.written sink.new) result }
     ensures blames { (source : ℕ) → Blames source source (K.faults sink.old) (K.faults sink.new) result }
 {
+    if !is_alone(&input.tree) {
+        let fault = TextFault {
+            line: 0,
+            word: 0,
+            name: FaultName::NotBuilt,
+        };
+        return write_fault(fault, buffer, sink);
+    }
     match print_buffered(buffer, sink, &Reports { input }) {
         Ok(()) => Status::Clean,
         Err(Failed) => Status::WriteFault,

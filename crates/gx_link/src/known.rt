@@ -1,8 +1,8 @@
 ghost use Rattle.std.specs.Prelude.{◌≡◌, IfOk, IfErr, Ok};
-ghost use Rattle.gx_gather.specs.Faults.{fault_at, IsCause};
+ghost use Rattle.gx_gather.specs.Faults.{IsCause};
 ghost use Rattle.gx_link.specs.Links.{figure_of, volume_at_word, matrix_at_word};
 
-use gx_gather::{ReadError, Shape, Table, TextFault};
+use gx_gather::{ReadError, Shape, Table, text_fault};
 use gx_hull::Solid;
 use gx_names::Names;
 use gx_rotation::Rotation;
@@ -28,7 +28,7 @@ impl Known {
             Shape::Own(solid) => Ok(solid),
             Shape::Named(name) => match self.solids.get(name.bytes()) {
                 Some(solid) => Ok(solid.copy(alloc)?),
-                None => Err(fault(line, 3, FaultName::NoSolid)),
+                None => Err(text_fault(line, 3, FaultName::NoSolid)),
             },
         }
     }
@@ -40,7 +40,7 @@ impl Known {
     {
         match self.volumes.number(name.bytes()) {
             Some(number) => Ok(number),
-            None => Err(fault(line, word, FaultName::NoVolume)),
+            None => Err(text_fault(line, word, FaultName::NoVolume)),
         }
     }
 
@@ -53,15 +53,9 @@ impl Known {
         match name {
             Some(name) => match self.turns.get(name.bytes()) {
                 Some(rotation) => Ok(*rotation),
-                None => Err(fault(line, word, FaultName::NoRotation)),
+                None => Err(text_fault(line, word, FaultName::NoRotation)),
             },
             None => Ok(Rotation::new(0)),
         }
     }
-}
-
-fn fault(line: u32, word: u32, name: FaultName) -> ReadError
-    ensures { result ≡ ReadError.Text (fault_at line word name) }
-{
-    ReadError::Text(TextFault { line, word, name })
 }

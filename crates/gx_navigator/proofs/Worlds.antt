@@ -1,5 +1,5 @@
 -- A world by the faces of its solid: it is bounded, and its points are those of the faces.
-use Rattle.std.proofs.Common.{◌≡◌, ℕ, ◌+◌, ◌*◌, ◌≤◌, ℤ, pos, negsuc, ◌*ℤ◌, ◌<ℤ◌, unsigned_abs, List, Option, Some, None, sym, ◌∙◌, arith}
+use Rattle.std.proofs.Common.{◌≡◌, ℕ, zero, suc, ◌+◌, ◌*◌, ◌≤◌, ℤ, pos, negsuc, ◌*ℤ◌, ◌<ℤ◌, unsigned_abs, List, [], Option, Some, None, if◌then◌else◌, refl, sym, subst, ◌∙◌, arith}
 use Rattle.std.proofs.lemmas.Int.{ints, unsigned_abs-mul}
 use Rattle.std.proofs.lemmas.Nat.{mul-le}
 use Rattle.gx_num.specs.declared.vector.V3.{V3}
@@ -8,18 +8,21 @@ use Rattle.gx_num.specs.Space.{HalfSpace, is_inside}
 use Rattle.gx_num.specs.Ray.{RayParameter, HasDirection, point_of_ray, IsPositive}
 use Rattle.gx_convex.specs.Points.{distinct}
 use Rattle.gx_shapes.specs.Accepted.{IsSolid}
-use Rattle.gx_shapes.specs.Solid.{vertices_of}
+use Rattle.gx_shapes.specs.declared.figure.Figure.{Figure}
+use Rattle.gx_shapes.specs.Solid.{solid_of, vertices_of}
 use Rattle.gx_num.specs.declared.extent.Extent.{Extent}
 use Rattle.gx_convex.specs.Faces.{faces_of}
 use Rattle.gx_convex.specs.Extent.{extent_of}
 use Rattle.gx_convex.specs.Laws.{AreTheSolid, IsBetween}
 use Rattle.gx_shapes.proofs.Solids.{faces_are_the_solid_of}
 use Rattle.gx_path.specs.Report.{Row, IsReport}
-use Rattle.gx_tree.specs.World.{World, solid_of, path_along}
+use Rattle.gx_num.specs.Vector4.{Vec4}
+use Rattle.gx_tree.specs.Hierarchy.{Hierarchy, volume_at, instances, max_depth}
+use Rattle.gx_tree.specs.Deepest.{descend, path_along}
 use Rattle.gx_clip.specs.declared.span.Span.{Span}
 use Rattle.gx_clip.specs.Clip.{IsBounded, IsClip}
 use Rattle.gx_clip.proofs.Clips.{clip_exists}
-use Rattle.gx_navigator.specs.Rows.{rows_of}
+use Rattle.gx_navigator.specs.Rows.{path_within, rows_of}
 use Rattle.gx_navigator.proofs.Reports.{IsReport-clip}
 
 times_reach : (z : ℤ) (n reach : ℕ) → unsigned_abs z ≤ reach → unsigned_abs (z *ℤ pos n) ≤ reach * n
@@ -61,20 +64,32 @@ IsClip-same solid other ray same (Some span) is = record {
   inside = λ t h. (λ e. (is.inside t h).0 (sym (same t h) ∙ e), λ b. same t h ∙ (is.inside t h).1 b);
 }
 
-module _ (world : World) (ray : Ray) (solid : IsSolid world.solid) where
-  abbrev pub world_faces : List HalfSpace
-  world_faces = faces_of (distinct (vertices_of world.solid))
+module _ (h : Hierarchy) (ray : Ray) (solid : IsSolid (volume_at h.volumes h.world).solid) (alone : instances h h.world ≡ []) where
+  abbrev pub world_figure : Figure
+  world_figure = (volume_at h.volumes h.world).solid
 
-  are : AreTheSolid (solid_of world) (distinct (vertices_of world.solid))
-  are = faces_are_the_solid_of world.solid solid
+  abbrev pub world_faces : List HalfSpace
+  world_faces = faces_of (distinct (vertices_of world_figure))
+
+  are : AreTheSolid (solid_of world_figure) (distinct (vertices_of world_figure))
+  are = faces_are_the_solid_of world_figure solid
 
   pub world_bounded : IsBounded world_faces
-  world_bounded = faces_bounded (solid_of world) (distinct (vertices_of world.solid)) are
+  world_bounded = faces_bounded (solid_of world_figure) (distinct (vertices_of world_figure)) are
 
-  pub world_report : (clip : Option Span) → IsClip world_faces ray clip → IsReport (path_along world ray) (rows_of clip)
+  -- no daughter is gone down into
+  stays : (n : ℕ) (p : Vec4) → descend h n h.world p ≡ []
+  stays zero p = refl
+  stays (suc n) p = rw alone refl
+
+  path_is : path_within (solid_of world_figure) ray ≡ path_along h ray
+  path_is = λ i t. if is_inside (solid_of world_figure) (point_of_ray ray t) then Some (sym (stays max_depth (point_of_ray ray t)) i) else None
+
+  pub world_report : (clip : Option Span) → IsClip world_faces ray clip → IsReport (path_along h ray) (rows_of clip)
   world_report clip is =
-      IsReport-clip (solid_of world) ray clip
-      (IsClip-same (solid_of world) world_faces ray (λ t h. are.same_inside (point_of_ray ray t) (omega (arith, ints, h.1))) clip is)
+      subst (λ place. IsReport place (rows_of clip)) path_is
+        (IsReport-clip (solid_of world_figure) ray clip
+        (IsClip-same (solid_of world_figure) world_faces ray (λ t h. are.same_inside (point_of_ray ray t) (omega (arith, ints, h.1))) clip is))
 
-  pub report_of : HasDirection ray → (rows : List Row) × IsReport (path_along world ray) rows
+  pub report_of : HasDirection ray → (rows : List Row) × IsReport (path_along h ray) rows
   report_of moves = let clip = clip_exists world_faces ray world_bounded moves in (rows_of clip.0, world_report clip.0 clip.1)

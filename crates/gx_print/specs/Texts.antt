@@ -2,9 +2,8 @@
 use Rattle.std.specs.Prelude.{ℕ, List, [], ◌++◌, ◌==◌, if◌then◌else◌, codes, decimal}
 use Rattle.gx_num.specs.Ray.{RayParameter}
 use Rattle.gx_path.specs.Report.{Row}
-use Rattle.gx_tree.specs.World.{World}
 use Rattle.gx_table.specs.Faults.{text_of}
-use Rattle.gx_reader.specs.declared.fault.TextFault.{TextFault}
+use Rattle.gx_gather.specs.declared.fault.TextFault.{TextFault}
 
 abbrev pub usage_line : List ℕ
 usage_line = codes "usage: g4exact (trace | check [--brief] | list) [--grid=EXPR] | sample N\n"
@@ -25,8 +24,8 @@ abbrev pub fraction_text : RayParameter → List ℕ
 fraction_text t = decimal t.num ++ slash_of t.den ++ digits_of t.den
 
 -- `FROM TO WORLDNAME`
-abbrev pub row_text : World → Row → List ℕ
-row_text world row = fraction_text row.from ++ codes " " ++ fraction_text row.to ++ codes " " ++ world.name ++ codes "\n"
+abbrev pub row_text : List ℕ → Row → List ℕ
+row_text world row = fraction_text row.from ++ codes " " ++ fraction_text row.to ++ codes " " ++ world ++ codes "\n"
 
 -- `fault LINE WORD NAME`
 abbrev pub fault_line : TextFault → List ℕ

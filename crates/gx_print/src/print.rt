@@ -8,9 +8,8 @@ ghost use Rattle.gx_print.specs.Texts.{usage_line, ray_head, row_text, fault_lin
 use gx_clip::Span;
 use gx_fraction::Frac;
 use gx_io::{Failed, Sink, write_all};
-use gx_reader::TextFault;
+use gx_gather::TextFault;
 use gx_table::fault_text;
-use gx_tree::World;
 use itoa::{Buffer, Integer};
 
 /// Writes the usage line.
@@ -32,15 +31,15 @@ pub fn print_ray<K: Sink>(number: u32, sink: &mut K) -> Result<(), Failed>
     write_numbered(sink, b"ray ", number)
 }
 
-/// Writes the row of a span in a world alone.
+/// Writes the row of a span in a world of this name.
 #[tactic(auto, using(gx_io::proofs::Joined::joined))]
-pub fn print_row<K: Sink>(tree: &World, span: &Span, sink: &mut K) -> Result<(), Failed>
-    ensures bytes { Writes (K.written sink.old) (K.written sink.new) (row_text tree.now (row_of span.now.from span.now.to [])) result }
+pub fn print_row<K: Sink>(world: &[u8], span: &Span, sink: &mut K) -> Result<(), Failed>
+    ensures bytes { Writes (K.written sink.old) (K.written sink.new) (row_text world.now (row_of span.now.from span.now.to [])) result }
     ensures cause { HasCause (K.faults sink.old) (K.faults sink.new) result }
 {
     write_span(sink, span)?;
     write_all(sink, b" ")?;
-    write_all(sink, tree.name())?;
+    write_all(sink, world)?;
     write_all(sink, b"\n")
 }
 

@@ -1,13 +1,12 @@
 use crate::{print_fault, print_ray, print_row, print_usage};
 use gx_clip::Span;
-use gx_expr::Grid;
 use gx_fraction::Frac;
+use gx_gather::TextFault;
 use gx_io::{Failed, MemSink};
-use gx_reader::{TextFault, read_text};
 use gx_table::FaultName;
 use std::test::Fail;
 
-const WORLD: &[u8] = b":VOLU hall BOX 1 1 1 Air";
+const WORLD: &[u8] = b"hall";
 
 fn off_grid() -> TextFault {
     TextFault {
@@ -34,11 +33,10 @@ fn broken() -> Span {
 #[test]
 fn each_line_has_its_bytes(rt: HostRuntime) -> Result<(), Fail> {
     let alloc = rt.alloc();
-    let input = read_text(alloc, &Grid::tenth(), WORLD)?;
     let mut sink = MemSink::new(alloc, 200, 3, Vec::new(alloc))?;
     print_ray(65536, &mut sink)?;
-    print_row(&input.tree, &whole(), &mut sink)?;
-    print_row(&input.tree, &broken(), &mut sink)?;
+    print_row(WORLD, &whole(), &mut sink)?;
+    print_row(WORLD, &broken(), &mut sink)?;
     print_fault(&off_grid(), &mut sink)?;
     print_usage(&mut sink)?;
     let lines =
@@ -51,10 +49,9 @@ fn each_line_has_its_bytes(rt: HostRuntime) -> Result<(), Fail> {
 #[test]
 fn a_write_that_fails_ends_a_line(rt: HostRuntime) -> Result<(), Fail> {
     let alloc = rt.alloc();
-    let input = read_text(alloc, &Grid::tenth(), WORLD)?;
     let mut sink = MemSink::new(alloc, 200, 3, vec![in alloc; 1, 2, 3, 4]?)?;
     assert_eq!(rt; print_ray(1, &mut sink), Err(Failed));
-    assert_eq!(rt; print_row(&input.tree, &whole(), &mut sink), Err(Failed));
+    assert_eq!(rt; print_row(WORLD, &whole(), &mut sink), Err(Failed));
     assert_eq!(rt; print_fault(&off_grid(), &mut sink), Err(Failed));
     assert_eq!(rt; print_usage(&mut sink), Err(Failed));
     assert!(rt; sink.written().is_empty());

@@ -6,4 +6,3 @@ pub mod Laws
 pub mod Limits
 pub mod Marks
 pub mod Volume
-pub mod World

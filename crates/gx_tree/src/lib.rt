@@ -1,4 +1,4 @@
-//! The hierarchy of volumes; beside it a world alone.
+//! The hierarchy of volumes.
 #![tactic(auto)]
 
 mod chains;
@@ -14,7 +14,6 @@ mod replicas;
 #[cfg(test)]
 mod tests;
 mod volume;
-mod world;
 
 pub use fault::{TreeError, TreeFault};
 pub use hierarchy::Hierarchy;
@@ -22,4 +21,3 @@ pub use instance::Instance;
 pub use limits::are_within_limits;
 pub use placement::Placement;
 pub use volume::Volume;
-pub use world::World;

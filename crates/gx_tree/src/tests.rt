@@ -5,7 +5,7 @@ ghost use Rattle.gx_shapes.specs.Accepted.{IsSolid};
 ghost use Rattle.gx_shapes.specs.Solid.{vertices_of};
 
 use crate::{
-    Hierarchy, Instance, Placement, TreeError, TreeFault, Volume, World, are_within_limits,
+    Hierarchy, Instance, Placement, TreeError, TreeFault, Volume, are_within_limits,
 };
 use gx_hull::{Hull, Solid};
 use gx_num::{M, V3};
@@ -13,19 +13,6 @@ use gx_rotation::Rotation;
 use gx_shapes::{Figure, SolidKind};
 use std::alloc::Global;
 use std::test::Fail;
-
-#[test]
-fn a_world_has_a_name_a_solid_and_a_material(rt: HostRuntime) -> Result<(), Fail> {
-    let alloc = rt.alloc();
-    let name = Vec::from_slice(alloc, b"hall")?;
-    let material = Vec::from_slice(alloc, b"Air")?;
-    let world = World::new(name, corner(alloc)?, material);
-    assert!(rt; world.name() == b"hall".as_slice());
-    assert!(rt; world.material() == b"Air".as_slice());
-    assert!(rt; world.solid().kind() == SolidKind::Tet);
-    assert!(rt; world.solid().hull().faces().len() == 4);
-    Ok(())
-}
 
 // ---- solids
 
