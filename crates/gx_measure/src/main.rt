@@ -1,7 +1,7 @@
-//! Measures hulls, the planes between them, whether they meet, and solids of lists of values. The words are
+//! Measures hulls, the planes between them, whether they meet, solids of lists of values, and hierarchies. The words are
 //! `hulls COUNT VERTICES`, `pairs COUNT VERTICES`, `decide` or `show` with `COUNT LEAST MOST TIMES` or `CONTACT TIMES`,
-//! `solids KIND COUNT VERTICES`, or `hostile KIND COUNT` for a list that the last test
-//! refuses.
+//! `solids KIND COUNT VERTICES`, `hostile KIND COUNT` for a list that the last test
+//! refuses, or `trees` or `daughters` with `SCENE TIMES`.
 #![tactic(auto)]
 
 mod hulls;
@@ -9,6 +9,7 @@ mod lists;
 mod meets;
 mod random;
 mod solids;
+mod trees;
 
 use gx_shapes::SolidKind;
 use gx_table::fault_text;
@@ -62,6 +63,14 @@ fn measured(alloc: Global, words: &[String]) -> Option<String> {
             let count = count.parse().ok()?;
             let fault = fault_text(solids::fault(alloc, &mut random, kind, count)?);
             format!(in alloc; "{count} hostile lists of kind {word}, {fault}").ok()
+        }
+        ("trees", [scene, times]) => {
+            let volumes = trees::judged(alloc, scene.as_str(), times.parse().ok()?)?;
+            format!(in alloc; "{times} times the {volumes} volumes of {scene}").ok()
+        }
+        ("daughters", [scene, times]) => {
+            let found = trees::found(alloc, scene.as_str(), times.parse().ok()?)?;
+            format!(in alloc; "{found} daughters of {scene}").ok()
         }
         _ => None,
     }

@@ -21,9 +21,10 @@ use Rattle.gx_gather.specs.declared.fault.ReadError.TheVariants.{Text, NoMemory 
 use Rattle.gx_gather.specs.Declarations.{Declarations}
 use Rattle.gx_form.specs.First.{◌>>=◌}
 use Rattle.gx_gather.specs.Faults.{line_fault, error_of, IsCause}
-use Rattle.gx_reader.specs.Reading.{with_line, read_lines}
+use Rattle.gx_reader.specs.Reading.{with_line, read_lines, input_from}
 use Rattle.gx_reader.specs.declared.line_reader.LineReader.TheVariants.{Stopped}
-use Rattle.gx_reader.specs.Resumed.{resumed, IsOpen, answered, is_out_of_memory, Tells}
+use Rattle.gx_link.specs.declared.input.Input.{Input}
+use Rattle.gx_reader.specs.Resumed.{resumed, IsOpen, input_as, answered, is_out_of_memory, Tells}
 
 ok_same : {A E : Type 0} (a b : A) → ◌≡◌ {A = Result A E} (Ok a) (Ok b) → a ≡ b
 ok_same a b e = cc
@@ -193,17 +194,15 @@ pub stopped_as : {A : Type 0} (r : Result A TextFault) (error : ReadError) → i
 stopped_as r (Text fault) memory h = ap answered (sym h)
 stopped_as r NoReadMemory memory h = absurd cc
 
-text_same : {A : Type 0} (a b : TextFault) → ◌≡◌ {A = Result A ReadError} (Err (Text a)) (Err (Text b)) → a ≡ b
-text_same a b e = cc
+-- the input of what was read, as a reader's answer
+input_same : (read : Result Declarations TextFault) → (answered read >>= input_as) ≡ answered (input_from read)
+input_same (Ok d) = refl
+input_same (Err fault) = refl
 
--- an answer that tells a text's reading tells the text's input or fault
-pub told_ok : {A : Type 0} (r : Result A TextFault) (result : Result A ReadError) → Tells (answered r) result → IfOk result (λ a. r ≡ Ok a)
-told_ok (Ok b) (Ok a) h = ap Ok (ok_same b a h)
-told_ok (Err fault) (Ok a) h = absurd (ok_err a (Text fault) (sym h))
-told_ok r (Err error) h = tt
+tells : {A : Type 0} (r : Result A TextFault) (result : Result A ReadError) → IfOk result (λ a. r ≡ Ok a) → IfErr result (IsCause r) → Tells (answered r) result
+tells r (Ok a) ok err = ap answered ok
+tells r (Err (Text fault)) ok err = ap answered err
+tells r (Err NoReadMemory) ok err = tt
 
-pub told_err : {A : Type 0} (r : Result A TextFault) (result : Result A ReadError) → Tells (answered r) result → IfErr result (IsCause r)
-told_err r (Ok a) h = tt
-told_err (Ok b) (Err (Text fault)) h = absurd (ok_err b (Text fault) h)
-told_err (Err other) (Err (Text fault)) h = ap Err (text_same other fault h)
-told_err r (Err NoReadMemory) h = tt
+pub told_input : (read : Result Declarations TextFault) (result : Result Input ReadError) → IfOk result (λ input. input_from read ≡ Ok input) → IfErr result (IsCause (input_from read)) → Tells (answered read >>= input_as) result
+told_input read result ok err = subst (λ r. Tells r result) (sym (input_same read)) (tells (input_from read) result ok err)
