@@ -1,3 +1,4 @@
 pub mod Bytes
+pub mod LineWords
 pub mod Lines
 pub mod Numbers

@@ -1,0 +1,105 @@
+-- The words of any line without a fault are words.
+use Rattle.std.proofs.Common.{◌≡◌, ℕ, Bool, true, false, List, [], ◌∷◌, ◌++◌, length, All, None, Some, refl, ap, arith, ◌≤◌, inl, inr}
+use Rattle.std.specs.Prelude.{position, not, nat_lt, ◌==◌, ◌||◌, filter}
+use Rattle.std.specs.List.{list_all, slice_split, position_or_len, onto_first}
+use Rattle.std.specs.Str.Lines.{strip_carriage_return}
+use Rattle.std.proofs.lemmas.Bool.{and_parts, cases_Bool, ltb-false}
+use Rattle.std.proofs.lemmas.Bool.Decides.{nat_tests}
+use Rattle.std.proofs.lemmas.List.Elements.{All-nil, All-cons, All-head, All-tail}
+use Rattle.gx_text.specs.declared.lines.TheConstants.{MAX_LINE}
+use Rattle.gx_text.specs.Lines.{begins_comment, is_allowed, is_blank, visible_of, words_of, fault_of, fault_at}
+use Rattle.gx_text.specs.PartialLine.{has_comment}
+use Rattle.gx_canon.specs.Text.{is_visible, IsWord}
+use Rattle.gx_canon.proofs.Bytes.{neither, before_bare, before_clear}
+
+-- ---- all bytes before the comment are allowed
+
+all_by : (line : List ℕ) → length line ≤ position_or_len (λ b. not (is_allowed b)) line → list_all is_allowed line ≡ true
+all_by [] e = refl
+all_by (b ∷ line) e = elim (cases_Bool (is_allowed b)) [
+  | inl good ↦ let e2 = rw good at e in rw good (all_by line (omega (arith, e2)))
+  | inr bad ↦ let e2 = rw bad at e in absurd (omega (arith, e2))
+]
+
+some_fault : (number : ℕ) (line : List ℕ) (place : ℕ) → fault_at number line (Some place) ≡ None → ⊥
+some_fault number line place h = elim (cases_Bool (nat_lt place MAX_LINE)) [
+  | inl e ↦ let h2 = rw e at h in cc
+  | inr e ↦ let h2 = rw e at h in cc
+]
+
+none_at : (number : ℕ) (line v : List ℕ) → fault_at number line (position (λ b. not (is_allowed b)) v) ≡ None → list_all is_allowed v ≡ true
+none_at number line v h = elim (cases_Bool (nat_lt (position_or_len (λ b. not (is_allowed b)) v) (length v))) [
+  | inl e ↦ absurd (some_fault number line (position_or_len (λ b. not (is_allowed b)) v) (let h2 = rw e at h in h2))
+  | inr e ↦ all_by v (ltb-false _ _ e)
+]
+
+-- ---- the parts between blanks
+
+-- no comment, and only bytes of words
+record IsPart (part : List ℕ) : Type 0 where
+  visible : list_all is_visible part ≡ true
+  clear : has_comment part ≡ false
+
+empty : IsPart []
+empty = record { visible = refl; clear = refl }
+
+-- the text cut at its blanks; the first part is a front of the text
+record Cut (text : List ℕ) : Type 0 where
+  head : List ℕ
+  others : List (List ℕ)
+  rest : List ℕ
+  cut : slice_split is_blank text ≡ head ∷ others
+  front : text ≡ head ++ rest
+  first : IsPart head
+  parts : All IsPart others
+
+seen : (b : ℕ) → is_allowed b ≡ true → is_blank b ≡ false → is_visible b ≡ true
+seen b a e = grind (arith, nat_tests, a, e)
+
+-- a comment in a front is one in the text
+front_begins : (b : ℕ) (head rest : List ℕ) → begins_comment (b ∷ (head ++ rest)) ≡ false → begins_comment (b ∷ head) ≡ false
+front_begins b [] rest h = refl
+front_begins b (c ∷ head) rest h = h
+
+cut_more : (b : ℕ) (text : List ℕ) (t : Bool) → is_blank b ≡ t → is_allowed b ≡ true → begins_comment (b ∷ text) ≡ false → Cut text → Cut (b ∷ text)
+cut_more b text true e a n c = record {
+  head = [];
+  others = c.head ∷ c.others;
+  rest = b ∷ text;
+  cut = rw e (ap (λ (ps : List (List ℕ)). [] ∷ ps) c.cut);
+  front = refl;
+  first = empty;
+  parts = All-cons IsPart c.head c.others c.first c.parts;
+}
+cut_more b text false e a n c = record {
+  head = b ∷ c.head;
+  others = c.others;
+  rest = c.rest;
+  cut = rw e (ap (onto_first b) c.cut);
+  front = ap (λ (x : List ℕ). b ∷ x) c.front;
+  first = record { visible = rw (seen b a e) c.first.visible; clear = rw (front_begins b c.head c.rest (rw c.front at n)) c.first.clear };
+  parts = c.parts;
+}
+
+cut_of : (text : List ℕ) → list_all is_allowed text ≡ true → has_comment text ≡ false → Cut text
+cut_of [] a n = record { head = []; others = []; rest = []; cut = refl; front = refl; first = empty; parts = All-nil IsPart }
+cut_of (b ∷ text) a n =
+    let good = and_parts (is_allowed b) (list_all is_allowed text) a in
+    let none = neither (begins_comment (b ∷ text)) (has_comment text) n in
+    cut_more b text (is_blank b) refl good.0 none.0 (cut_of text good.1 none.1)
+
+kept : (ws : List (List ℕ)) → All IsPart ws → All IsWord (filter (λ word. not (length word == 0)) ws)
+kept [] h = All-nil IsWord
+kept (w ∷ ws) h =
+    let is = All-head IsPart w ws h in
+    let rest = kept ws (All-tail IsPart w ws h) in
+    elim (cases_Bool (length w == 0)) [
+      | inl e ↦ rw e rest
+      | inr e ↦ rw e (All-cons IsWord w _ (record { some = e; visible = is.visible; bare = before_bare w is.clear }) rest)
+    ]
+
+pub words_are : (number : ℕ) (line : List ℕ) → fault_of number line ≡ None → All IsWord (words_of line)
+words_are number line h =
+    let v = visible_of line in
+    let c = cut_of v (none_at number line v h) (before_clear (strip_carriage_return line)) in
+    rw c.cut (kept (c.head ∷ c.others) (All-cons IsPart c.head c.others c.first c.parts))
