@@ -1,4 +1,10 @@
+pub mod Back
 pub mod Bytes
+pub mod FewFacets
+pub mod Figures
 pub mod LineWords
 pub mod Lines
 pub mod Numbers
+pub mod PrintedWords
+pub mod Scales
+pub mod Tags

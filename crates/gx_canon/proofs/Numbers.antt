@@ -160,7 +160,7 @@ fraction_worth params z d h near few =
     ap (λ (s : List ℕ). value_of_word params (signed_decimal z ++ 47 ∷ s)) (sym (append-nil (decimal d)))
     ∙ sym (word_whole params word _ (expr_first 0 params word [] _ both)) ∙ quotient_same z d ∙ ratio_same z d h (omega arith) (omega arith)
 
-scale_by : (params : List Param) (z : ℤ) (d : ℕ) (t : Bool) → d == 1 ≡ t → IsLowest (unsigned_abs z) d → unsigned_abs z < 10 ^ 18 → d < 10 ^ 18
+pub scale_by : (params : List Param) (z : ℤ) (d : ℕ) (t : Bool) → d == 1 ≡ t → IsLowest (unsigned_abs z) d → unsigned_abs z < 10 ^ 18 → d < 10 ^ 18
     → value_of_word params (if t then signed_decimal z else signed_decimal z ++ 47 ∷ decimal d) ≡ Ok (plain (record { num = z; den = d }))
 scale_by params z d true e h near few = rw (eqb-true d 1 e) (whole_back params z near)
 scale_by params z d false e h near few = fraction_worth params z d h near few
