@@ -15,7 +15,7 @@ use Rattle.gx_canon.proofs.Bytes.{all_of, before_bare}
 use Rattle.gx_canon.proofs.Numbers.{decimal_digits}
 
 -- a byte of a word that is no `/`
-abbrev is_plain : ℕ → Bool
+abbrev pub is_plain : ℕ → Bool
 is_plain b = is_visible b && not (b == 47)
 
 plain_visible : (b : ℕ) → is_plain b ≡ true → is_visible b ≡ true
@@ -50,7 +50,7 @@ some_byte w h = ne_eqb (length w) 0 (λ e. absurd (omega (arith, e, h)))
 
 -- ---- numbers
 
-decimal_plain : (n : ℕ) → n < 10 ^ 10 → list_all is_plain (decimal n) ≡ true
+pub decimal_plain : (n : ℕ) → n < 10 ^ 10 → list_all is_plain (decimal n) ≡ true
 decimal_plain n h = all_of is_ascii_digit is_plain (decimal n) digit_plain (decimal_digits n (omega arith))
 
 signed_plain : (z : ℤ) → unsigned_abs z < 10 ^ 10 → list_all is_plain (signed_decimal z) ≡ true
@@ -69,14 +69,11 @@ signed_some : (z : ℤ) → unsigned_abs z < 10 ^ 10 → 0 < length (signed_deci
 signed_some (pos n) h = decimal_nonempty n (omega arith)
 signed_some (negsuc n) h = omega arith
 
+pub plain_word : (w : List ℕ) → 0 < length w → list_all is_plain w ≡ true → IsWord w
+plain_word w some h = record { some = some_byte w some; visible = all_of is_plain is_visible w plain_visible h; bare = before_bare w (plain_clear w h) }
+
 pub signed_word : (z : ℤ) → unsigned_abs z < 10 ^ 10 → IsWord (signed_decimal z)
-signed_word z h =
-    let plain = signed_plain z h in
-    record {
-      some = some_byte (signed_decimal z) (signed_some z h);
-      visible = all_of is_plain is_visible (signed_decimal z) plain_visible plain;
-      bare = before_bare (signed_decimal z) (plain_clear (signed_decimal z) plain);
-    }
+signed_word z h = plain_word (signed_decimal z) (signed_some z h) (signed_plain z h)
 
 pub over_word : (z : ℤ) (d : ℕ) → unsigned_abs z < 10 ^ 10 → d < 10 ^ 10 → IsWord (signed_decimal z ++ 47 ∷ decimal d)
 over_word z d h k = record {
