@@ -18,13 +18,14 @@ use Rattle.gx_decl.specs.Words.{Words, Reader, end, left, name, steps, whole, ro
 use Rattle.gx_decl.specs.Lines.{vector}
 use Rattle.gx_canon.specs.Text.{IsWord}
 use Rattle.gx_canon.specs.Words.{vector_words}
+use Rattle.gx_canon.specs.Canonical.{millimetre}
 use Rattle.gx_canon.specs.Printable.{IsNameWord}
-use Rattle.gx_canon.proofs.Numbers.{whole_back as worth, steps_whole, count_whole, one}
+use Rattle.gx_canon.proofs.Numbers.{whole_back as worth, steps_whole, count_whole}
 use Rattle.gx_canon.proofs.PrintedWords.{IsShortWord, signed_short}
 
 -- so many words were read, and these are left
 abbrev pub at : List Param → ℕ → List (List ℕ) → Words
-at params count rest = record { params = params; grid = one; count = count; rest = rest }
+at params count rest = record { params = params; grid = millimetre; count = count; rest = rest }
 
 -- the form reads these words as this, whatever comes before and after them
 pub record Back {A : Type 0} (most : ℕ) (p : Reader A) (words : List (List ℕ)) (a : A) : Type 0 where

@@ -203,6 +203,10 @@ some_facets : (facets : List Facet) → IsSolid (figure.Tessellated facets) → 
 some_facets [] is = absurd (let e = is.whole in cc)
 some_facets (f ∷ facets) is = omega arith
 
+-- in words of few bytes
+pub facets_back : (facets : List Facet) → IsSolid (figure.Tessellated facets) → Back 11 (spec.figure_in of_words kind.Tessellated) (value_words (figure.Tessellated facets)) (figure.Tessellated facets)
+facets_back facets is = tessellated_back 11 (omega arith) facets (some_facets facets is) (omega (arith, few_facets facets is)) (given (figure.Tessellated facets) is.values)
+
 pub figure_back : (f : Figure) → IsSolid f → HasLowestScales f → Back 255 (spec.figure_in of_words (kind_of f)) (value_words f) f
 figure_back (figure.Cuboid hx hy hz) is low =
     let h = given (figure.Cuboid hx hy hz) is.values in box_back 255 (omega arith) hx hy hz h.0 h.1 h.2
@@ -215,5 +219,4 @@ figure_back (figure.Extruded corners s t) is low =
     let at = moved corners s t is.values in
     let none = first_true-none ((is_straight corners, Flat) ∷ (not (is_convex corners), NotConvex) ∷ []) is.whole in
     extruded_back corners h.each (none 0 (true, Flat) (omega arith)) (not-false (is_convex corners) (none 1 (true, Flat) (omega arith))) s t h at.0 at.1 low.0 low.1
-figure_back (figure.Tessellated facets) is low =
-    tessellated_back 255 (omega arith) facets (some_facets facets is) (omega (arith, few_facets facets is)) (given (figure.Tessellated facets) is.values)
+figure_back (figure.Tessellated facets) is low = longer_back 11 255 _ _ _ (omega arith) (facets_back facets is)

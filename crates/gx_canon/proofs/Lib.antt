@@ -1,5 +1,6 @@
 pub mod Back
 pub mod Bytes
+pub mod Declarations
 pub mod FewFacets
 pub mod Figures
 pub mod LineWords

@@ -31,6 +31,7 @@ use Rattle.gx_expr.proofs.DigitValues.{front_value, trimmed_value}
 use Rattle.gx_expr.proofs.Leaves.{number_read}
 use Rattle.gx_expr.proofs.Numbers.{ratio-whole}
 use Rattle.gx_expr.proofs.Quotient.{exact}
+use Rattle.gx_canon.specs.Canonical.{millimetre}
 
 -- ---- the digits of a number
 
@@ -167,14 +168,10 @@ scale_by params z d false e h near few = fraction_worth params z d h near few
 
 -- ---- steps of the grid 1, and counts
 
--- a step of 1 mm
-abbrev pub one : Fraction
-one = record { num = pos 1; den = 1 }
-
-ratio_one : (z : ℤ) → whole_ratio (record { num = z; den = 1 }) one ≡ Some z
+ratio_one : (z : ℤ) → whole_ratio (record { num = z; den = 1 }) millimetre ≡ Some z
 ratio_one z = (exact (z *ℤ pos 1) (pos 1) z (omega (arith, ints))).1 refl
 
-pub steps_whole : (z : ℤ) → unsigned_abs z ≤ unsigned_abs M → steps (whole z) one ≡ Ok z
+pub steps_whole : (z : ℤ) → unsigned_abs z ≤ unsigned_abs M → steps (whole z) millimetre ≡ Ok z
 unfolding steps
 steps_whole z h =
     let near : nat_le (unsigned_abs z) (unsigned_abs M) ≡ true = grind (arith, nat_tests, h) in

@@ -1,9 +1,10 @@
 -- The canonical text of a hierarchy and its rays: rotations, volumes, placements and rays, a line for each. It is this project's own.
-use Rattle.std.specs.Prelude.{ℕ, nat_eq, List, ◌∷◌, ◌++◌, map, flat_map, filter, Option, None, Some}
+use Rattle.std.specs.Prelude.{ℕ, pos, nat_eq, List, ◌∷◌, ◌++◌, map, flat_map, filter, Option, None, Some}
 use Rattle.std.specs.List.{list_any, range_with_len, filter_map}
 use Rattle.std.specs.Option.{option_map}
 use Rattle.std.specs.Fmt.{decimal}
 use Rattle.gx_num.specs.declared.ray.Ray.{Ray}
+use Rattle.gx_fraction.specs.Fraction.{Fraction}
 use Rattle.gx_rotation.specs.Rotation.{matrix_of, number_of}
 use Rattle.gx_tree.specs.declared.placement.Placement.{Placement}
 use Rattle.gx_tree.specs.declared.placement.Placement.TheVariants as placement
@@ -60,3 +61,7 @@ declarations_of h rays = turns h.volumes ++ map volume_declared h.volumes ++ pla
 
 abbrev pub canonical : Hierarchy → List Ray → List ℕ
 canonical h rays = text_of (map words_of (declarations_of h rays))
+
+-- the grid on which it is read: its lengths are in steps
+abbrev pub millimetre : Fraction
+millimetre = record { num = pos 1; den = 1 }

@@ -1,8 +1,30 @@
 -- What a canonical text promises.
-use Rattle.std.specs.Prelude.{◌≡◌, ℕ, List, All}
-use Rattle.gx_text.specs.Lines.{cut}
-use Rattle.gx_canon.specs.Text.{text_of, IsLine, read_from, lines_from}
+use Rattle.std.specs.Prelude.{◌≡◌, ℕ, List, map, All, Option, Some, Ok}
+use Rattle.gx_num.specs.declared.ray.Ray.{Ray}
+use Rattle.gx_fraction.specs.Fraction.{Fraction}
+use Rattle.gx_text.specs.TextLine.{TextLine}
+use Rattle.gx_text.specs.Lines.{cut, ended}
+use Rattle.gx_expr.specs.Param.{Param}
+use Rattle.gx_tree.specs.Hierarchy.{Hierarchy}
+use Rattle.gx_tree.specs.Fault.{IsTree}
+use Rattle.gx_decl.specs.declared.declaration.Declaration.{Declaration}
+use Rattle.gx_decl.specs.Decl.{declared_of}
+use Rattle.gx_decl.specs.Range.{IsTraceable}
+use Rattle.gx_canon.specs.Text.{text_of, IsWord, IsLine, read_from, lines_from}
+use Rattle.gx_canon.specs.Words.{words_of}
+use Rattle.gx_canon.specs.Canonical.{declarations_of, millimetre}
+use Rattle.gx_canon.specs.Printable.{IsLowestFraction, IsPrintable, IsPrintableVolume}
 
 -- the lines of a printed text, read, are those that were printed
 abbrev pub LinesBack : Type 0
 LinesBack = (number : ℕ) (lines : List (List (List ℕ))) → All IsLine lines → read_from number (cut (text_of lines)) ≡ lines_from number lines
+
+-- a declaration is printed as a line without a fault that declares it, whatever the parameters
+pub record IsReadBack (d : Declaration) : Type 0 where
+  pub line : IsLine (words_of d)
+  pub declared : (params : List Param) → declared_of params millimetre (words_of d) ≡ Ok d
+
+-- so is each declaration of a canonical text
+abbrev pub DeclarationsBack : Type 0
+DeclarationsBack =
+    (h : Hierarchy) (rays : List Ray) → IsTree h → All IsPrintableVolume h.volumes → All IsTraceable rays → All IsReadBack (declarations_of h rays)
