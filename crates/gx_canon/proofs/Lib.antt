@@ -5,6 +5,7 @@ pub mod FewFacets
 pub mod Figures
 pub mod LineWords
 pub mod Lines
+pub mod Lowest
 pub mod Numbers
 pub mod PrintedWords
 pub mod Scales

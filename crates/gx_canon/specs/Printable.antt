@@ -17,8 +17,13 @@ use Rattle.gx_decl.specs.Range.{IsName, IsForm}
 use Rattle.gx_canon.specs.Text.{IsWord}
 use Rattle.gx_canon.specs.Canonical.{form_of}
 
+-- in lowest terms
 abbrev pub IsLowestFraction : Fraction → Type 0
 IsLowestFraction f = IsLowest (unsigned_abs f.num) f.den
+
+-- the values of parameters are
+abbrev pub AreLowest : List Param → Type 0
+AreLowest params = All (λ p. IsLowestFraction p.value.number) params
 
 abbrev pub IsLowestScale : Scale → Type 0
 IsLowestScale s = IsLowest (unsigned_abs s.num) (unsigned_abs s.den)
