@@ -3,6 +3,8 @@ pub mod Bytes
 pub mod Declarations
 pub mod FewFacets
 pub mod Figures
+pub mod Kept
+pub mod KeptLines
 pub mod LineWords
 pub mod Lines
 pub mod Lowest

@@ -1,5 +1,5 @@
 -- The words of any line without a fault are words.
-use Rattle.std.proofs.Common.{◌≡◌, ℕ, Bool, true, false, List, [], ◌∷◌, ◌++◌, length, All, None, Some, refl, ap, arith, ◌≤◌, inl, inr}
+use Rattle.std.proofs.Common.{◌≡◌, ℕ, Bool, true, false, List, [], ◌∷◌, ◌++◌, length, All, Option, None, Some, Ok, refl, ap, subst, arith, ◌≤◌, inl, inr}
 use Rattle.std.specs.Prelude.{position, not, nat_lt, ◌==◌, ◌||◌, filter}
 use Rattle.std.specs.List.{list_all, slice_split, position_or_len, onto_first}
 use Rattle.std.specs.Str.Lines.{strip_carriage_return}
@@ -7,9 +7,12 @@ use Rattle.std.proofs.lemmas.Bool.{and_parts, cases_Bool, ltb-false}
 use Rattle.std.proofs.lemmas.Bool.Decides.{nat_tests}
 use Rattle.std.proofs.lemmas.List.Elements.{All-nil, All-cons, All-head, All-tail}
 use Rattle.gx_text.specs.declared.lines.TheConstants.{MAX_LINE}
-use Rattle.gx_text.specs.Lines.{begins_comment, is_allowed, is_blank, visible_of, words_of, fault_of, fault_at}
+use Rattle.gx_text.specs.Lines.{begins_comment, is_allowed, is_blank, visible_of, words_of, fault_of, fault_at, line_of, ended_with}
+use Rattle.gx_text.specs.declared.lines.LineFault.{LineFault}
+use Rattle.gx_text.specs.TextLine.{TextLine}
 use Rattle.gx_text.specs.PartialLine.{has_comment}
 use Rattle.gx_canon.specs.Text.{is_visible, IsWord}
+use Rattle.gx_canon.specs.Laws.{WordsAreWords}
 use Rattle.gx_canon.proofs.Bytes.{neither, before_bare, before_clear}
 
 -- ---- all bytes before the comment are allowed
@@ -98,8 +101,22 @@ kept (w ∷ ws) h =
       | inr e ↦ rw e (All-cons IsWord w _ (record { some = e; visible = is.visible; bare = before_bare w is.clear }) rest)
     ]
 
-pub words_are : (number : ℕ) (line : List ℕ) → fault_of number line ≡ None → All IsWord (words_of line)
+words_are : (number : ℕ) (line : List ℕ) → fault_of number line ≡ None → All IsWord (words_of line)
 words_are number line h =
     let v = visible_of line in
     let c = cut_of v (none_at number line v h) (before_clear (strip_carriage_return line)) in
     rw c.cut (kept (c.head ∷ c.others) (All-cons IsPart c.head c.others c.first c.parts))
+
+in_line : (number : ℕ) (ws : List (List ℕ)) (read : TextLine) → line_of number ws ≡ Some read → All IsWord ws → All IsWord read.words
+in_line number [] read e h = absurd cc
+in_line number (w ∷ ws) read e h =
+    let first : TextLine = record { number = number; words = w ∷ ws } in
+    let same : first ≡ read = cc in
+    subst (λ (r : TextLine). All IsWord r.words) same h
+
+by_fault : (number : ℕ) (line : List ℕ) (fault : Option LineFault) → fault_of number line ≡ fault → (read : TextLine) → ended_with number line fault ≡ Ok (Some read) → All IsWord read.words
+by_fault number line (Some fault) none read e = absurd cc
+by_fault number line None none read e = let same : line_of number (words_of line) ≡ Some read = cc in in_line number (words_of line) read same (words_are number line none)
+
+pub words_are_words : WordsAreWords
+words_are_words number line read e = by_fault number line (fault_of number line) refl read e

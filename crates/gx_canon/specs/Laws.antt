@@ -1,5 +1,5 @@
 -- What a canonical text promises.
-use Rattle.std.specs.Prelude.{◌≡◌, ℕ, List, map, All, Option, Some, Ok}
+use Rattle.std.specs.Prelude.{◌≡◌, ℕ, List, All, Option, Some, Ok}
 use Rattle.gx_num.specs.declared.ray.Ray.{Ray}
 use Rattle.gx_fraction.specs.Fraction.{Fraction}
 use Rattle.gx_text.specs.TextLine.{TextLine}
@@ -13,7 +13,7 @@ use Rattle.gx_decl.specs.Range.{IsTraceable}
 use Rattle.gx_canon.specs.Text.{text_of, IsWord, IsLine, read_from, lines_from}
 use Rattle.gx_canon.specs.Words.{words_of}
 use Rattle.gx_canon.specs.Canonical.{declarations_of, millimetre}
-use Rattle.gx_canon.specs.Printable.{IsLowestFraction, IsPrintable, IsPrintableVolume}
+use Rattle.gx_canon.specs.Printable.{AreLowest, IsPrintable, IsPrintableVolume}
 
 -- the lines of a printed text, read, are those that were printed
 abbrev pub LinesBack : Type 0
@@ -28,3 +28,11 @@ pub record IsReadBack (d : Declaration) : Type 0 where
 abbrev pub DeclarationsBack : Type 0
 DeclarationsBack =
     (h : Hierarchy) (rays : List Ray) → IsTree h → All IsPrintableVolume h.volumes → All IsTraceable rays → All IsReadBack (declarations_of h rays)
+
+-- a line without a fault has words
+abbrev pub WordsAreWords : Type 0
+WordsAreWords = (number : ℕ) (line : List ℕ) (read : TextLine) → ended number line ≡ Ok (Some read) → All IsWord read.words
+
+-- what is read of words, with parameters in lowest terms, is printable
+abbrev pub Kept : Type 0
+Kept = (params : List Param) (grid : Fraction) (words : List (List ℕ)) (d : Declaration) → AreLowest params → All IsWord words → declared_of params grid words ≡ Ok d → IsPrintable d

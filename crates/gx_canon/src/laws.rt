@@ -1,5 +1,5 @@
 //! Laws over the definitions, each the contract of a function that does nothing.
-ghost use Rattle.gx_canon.specs.Laws.{LinesBack, DeclarationsBack};
+ghost use Rattle.gx_canon.specs.Laws.{LinesBack, DeclarationsBack, WordsAreWords, Kept};
 
 /// The lines of a printed text are those that were printed.
 pub fn lines_back()
@@ -9,4 +9,14 @@ pub fn lines_back()
 /// Each line of a canonical text is without a fault, and declares what it was printed for.
 pub fn declarations_back()
     ensures { DeclarationsBack }
+{}
+
+/// The words of a line without a fault are words.
+pub fn words_are_words()
+    ensures { WordsAreWords }
+{}
+
+/// What a line declares is printable.
+pub fn kept()
+    ensures { Kept }
 {}
