@@ -5,6 +5,7 @@ pub mod FewFacets
 pub mod Figures
 pub mod Kept
 pub mod KeptLines
+mod KnownTexts
 pub mod LineWords
 pub mod Lines
 pub mod Lowest
