@@ -1,10 +1,11 @@
 -- Each declaration of a canonical text is read back.
-use Rattle.std.proofs.Common.{◌≡◌, ℕ, ◌+◌, ◌*◌, ◌<◌, ◌≤◌, Bool, true, false, List, [], ◌∷◌, ◌++◌, map, flat_map, length, get_or, pos, All, Option, Some, None, Ok, refl, ap, ◌∙◌, arith, codes, length-append}
+use Rattle.std.proofs.Common.{◌≡◌, ℕ, ◌+◌, ◌*◌, ◌<◌, ◌≤◌, Bool, true, false, List, [], ◌∷◌, ◌++◌, map, flat_map, length, ◌==◌, get_or, pos, All, Option, Some, None, Ok, refl, ap, ◌∙◌, arith, codes, length-append}
 use Rattle.std.specs.Prelude.{nat_eq, nat_lt, filter, if◌then◌else◌}
 use Rattle.std.specs.Fmt.{decimal}
 use Rattle.std.specs.Int.{from_bool}
 use Rattle.std.specs.Ordering.{int_eq}
 use Rattle.std.specs.List.{list_any, range_with_len}
+use Rattle.std.proofs.lemmas.Bool.{ne_eqb}
 use Rattle.std.proofs.lemmas.List.Elements.{All-nil, All-cons, All-head, All-tail, All-append, All-map, All-filter, All-weaker}
 use Rattle.std.proofs.lemmas.List.FromFn.{length-range_with_len, get_or-range_with_len}
 use Rattle.gx_num.specs.declared.vector.V3.{V3}
@@ -27,24 +28,29 @@ use Rattle.gx_tree.specs.Limits.{IsPlaceable}
 use Rattle.gx_tree.specs.Fault.{IsTree}
 use Rattle.gx_decl.specs.declared.declaration.Declaration.{Declaration}
 use Rattle.gx_decl.specs.declared.declaration.Declaration.TheVariants as declaration
-use Rattle.gx_decl.specs.Decl.{line, answer_of}
+use Rattle.gx_decl.specs.Decl.{line, answer_of, declared_of}
 use Rattle.gx_decl.specs.Range.{IsTraceable}
 use Rattle.gx_canon.specs.Text.{IsWord, IsLine}
 use Rattle.gx_canon.specs.Words.{corner_words, section_words, points_words, facet_words, kind_word, value_words, words_of}
-use Rattle.gx_canon.specs.Canonical.{rotation_name, rotation_of, form_of, rotations_in, turns, volume_declared, placed, placements, declarations_of}
+use Rattle.gx_canon.specs.Canonical.{millimetre, rotation_name, rotation_number, form_of, rotations_in, turns, volume_declared, placed, placements, declarations_of}
 use Rattle.gx_canon.specs.Printable.{IsNameWord, HasLowestScales, IsPrintablePlacement, IsPrintableVolume}
-use Rattle.gx_canon.specs.Laws.{IsReadBack, DeclarationsBack}
+use Rattle.gx_canon.specs.Laws.{IsReadBack, DeclarationsBack, TextBack}
 use Rattle.gx_canon.proofs.Back.{Last}
 use Rattle.gx_canon.proofs.Figures.{figure_back, facets_back}
 use Rattle.gx_canon.proofs.FewFacets.{few_facets}
+use Rattle.gx_canon.proofs.Lines.{lines_back}
 use Rattle.gx_canon.proofs.PrintedWords.{IsShortWord, size, joined_size, size-append, size-short}
 use Rattle.gx_canon.proofs.Tags.{ray_line, volume_line, replica_line, single_line, linear_line, square_line, turn_line, rotation_named}
 
 -- ---- a line that is read back
 
+has_words : (words : List (List ℕ)) (d : Declaration) → declared_of [] millimetre words ≡ Ok d → (length words == 0) ≡ false
+has_words [] d e = absurd cc
+has_words (w ∷ ws) d e = ne_eqb (length (w ∷ ws)) 0 (λ none. absurd (omega (arith, none)))
+
 read_back : (d : Declaration) → Last 255 line (words_of d) d → size (words_of d) ≤ 65536 → IsReadBack d
 read_back d h few = record {
-  line = record { visible = All-weaker (IsShortWord 255) IsWord (λ w is. is.word) (words_of d) h.short; short = omega (arith, few, joined_size (words_of d)) };
+  line = record { some = has_words (words_of d) d (ap answer_of (h.reads [] 0).1); visible = All-weaker (IsShortWord 255) IsWord (λ w is. is.word) (words_of d) h.short; short = omega (arith, few, joined_size (words_of d)) };
   declared = λ params. ap answer_of (h.reads params 0).1;
 }
 
@@ -157,3 +163,8 @@ declarations_back h rays tree are traceable =
     (All-append IsReadBack (first ++ second) third
     (All-append IsReadBack first second (turns_back volumes) (volumes_back volumes tree.solids are)) (placements_back volumes tree.limits.placeable are))
     (All-map IsReadBack declaration.Trace rays (All-weaker IsTraceable (λ r. IsReadBack (declaration.Trace r)) (λ r is. few_words _ (ray_line r is) (omega arith)) rays traceable))
+
+pub text_back : TextBack
+text_back number h rays tree are traceable =
+    let declared = declarations_of h rays in
+    lines_back number (map words_of declared) (All-map IsLine words_of declared (All-weaker IsReadBack (λ d. IsLine (words_of d)) (λ d is. is.line) declared (declarations_back h rays tree are traceable)))

@@ -1,5 +1,5 @@
 -- The words of a printed line are those that were printed.
-use Rattle.std.proofs.Common.{◌≡◌, ℕ, ◌+◌, ◌-◌, Bool, true, false, List, [], ◌∷◌, ◌++◌, length, get_or, All, None, Ok, refl, ap, subst, ◌∙◌, arith, one-add}
+use Rattle.std.proofs.Common.{◌≡◌, ℕ, ◌+◌, ◌-◌, Bool, true, false, List, [], ◌∷◌, ◌++◌, length, get_or, All, Option, Some, None, Result, Ok, refl, ap, subst, ◌∙◌, arith, one-add}
 use Rattle.std.specs.Prelude.{position, not, nat_lt, ◌==◌, ◌||◌, slice_index, filter}
 use Rattle.std.specs.List.{list_all, slice_split, position_or_len, onto_first}
 use Rattle.std.specs.Str.Lines.{strip_carriage_return}
@@ -9,6 +9,8 @@ use Rattle.std.proofs.lemmas.List.Folds.{list_all-append}
 use Rattle.std.proofs.lemmas.List.Elements.{All-head, All-tail}
 use Rattle.gx_text.specs.declared.lines.TheConstants.{MAX_LINE}
 use Rattle.gx_text.specs.Lines.{cut, before_comment, is_allowed, is_blank, visible_of, words_in, fault_of, ended, ended_with, line_of}
+use Rattle.gx_text.specs.declared.lines.LineFault.{LineFault}
+use Rattle.gx_text.specs.TextLine.{TextLine}
 use Rattle.gx_text.specs.PartialLine.{has_comment}
 use Rattle.gx_canon.specs.Text.{joined, text_of, is_visible, IsWord, IsLine, read_from}
 use Rattle.gx_canon.specs.Laws.{LinesBack}
@@ -111,11 +113,16 @@ fault_joined number ws h =
     let short : nat_lt MAX_LINE (length (joined ws)) ≡ false = grind (arith, nat_tests, h.short) in
     rw (visible_joined ws h.visible, none, short) refl
 
+some_line : (number : ℕ) (ws : List (List ℕ)) → (length ws == 0) ≡ false → line_of number ws ≡ Some (record { number = number; words = ws })
+some_line number [] some = absurd cc
+some_line number (w ∷ ws) some = refl
+
 -- a printed line, read
-pub ended_joined : (number : ℕ) (ws : List (List ℕ)) → IsLine ws → ended number (joined ws) ≡ Ok (line_of number ws)
+pub ended_joined : (number : ℕ) (ws : List (List ℕ)) → IsLine ws → ended number (joined ws) ≡ Ok (Some (record { number = number; words = ws }))
 ended_joined number ws h =
     ap (ended_with number (joined ws)) (fault_joined number ws h)
     ∙ ap (λ (words : List (List ℕ)). Ok (line_of number words)) (ap words_in (visible_joined ws h.visible) ∙ parts_joined ws h.visible)
+    ∙ ap Ok (some_line number ws h.some)
 
 -- a printed line is cut off
 pub cut_line : (ws : List (List ℕ)) (rest : List ℕ) → All IsWord ws → cut (joined ws ++ 10 ∷ rest) ≡ joined ws ∷ cut rest
@@ -126,4 +133,4 @@ lines_back number [] h = refl
 lines_back number (ws ∷ lines) h =
     let is = All-head IsLine ws lines h in
     ap (read_from number) (cut_line ws (text_of lines) is.visible)
-    ∙ rw (ended_joined number ws is) (ap (λ (r : _). Ok (line_of number ws) ∷ r) (lines_back (number + 1) lines (All-tail IsLine ws lines h)))
+    ∙ rw (ended_joined number ws is) (ap (λ (r : List (Result (Option TextLine) LineFault)). Ok (Some (record { number = number; words = ws })) ∷ r) (lines_back (number + 1) lines (All-tail IsLine ws lines h)))

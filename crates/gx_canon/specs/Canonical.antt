@@ -22,11 +22,11 @@ abbrev pub rotation_name : ℕ → List ℕ
 rotation_name k = 82 ∷ decimal k
 
 -- the number of a placement's rotation; replicas have none
-abbrev pub rotation_of : Placement → Option ℕ
-rotation_of (placement.Single volume copy rotation offset) = Some (number_of rotation)
-rotation_of (placement.Replica volume axis count width) = None
-rotation_of (placement.Linear volume axis rotation count step offset) = Some (number_of rotation)
-rotation_of (placement.Square volume plane rotation first_count second_count first_step second_step first_offset second_offset) = Some (number_of rotation)
+abbrev pub rotation_number : Placement → Option ℕ
+rotation_number (placement.Single volume copy rotation offset) = Some (number_of rotation)
+rotation_number (placement.Replica volume axis count width) = None
+rotation_number (placement.Linear volume axis rotation count step offset) = Some (number_of rotation)
+rotation_number (placement.Square volume plane rotation first_count second_count first_step second_step first_offset second_offset) = Some (number_of rotation)
 
 abbrev pub form_of : Placement → Form
 form_of (placement.Single volume copy rotation offset) = form.Single copy offset
@@ -37,7 +37,7 @@ form_of (placement.Square volume plane rotation first_count second_count first_s
 
 -- the numbers of the rotations that stand in placements
 abbrev pub rotations_in : List Volume → List ℕ
-rotations_in volumes = flat_map (λ v. filter_map rotation_of v.placements) volumes
+rotations_in volumes = flat_map (λ v. filter_map rotation_number v.placements) volumes
 
 -- each of them once, in increasing order
 abbrev pub turns : List Volume → List Declaration
@@ -50,7 +50,7 @@ volume_declared v = declaration.Volume v.name v.solid v.material
 -- a placement in a mother
 abbrev pub placed : List Volume → Volume → Placement → Declaration
 placed volumes mother p =
-    declaration.Place (volume_at volumes (daughter_of p)).name mother.name (option_map rotation_name (rotation_of p)) (form_of p)
+    declaration.Place (volume_at volumes (daughter_of p)).name mother.name (option_map rotation_name (rotation_number p)) (form_of p)
 
 -- mothers in order, and the placements of each in order
 abbrev pub placements : List Volume → List Declaration

@@ -1,5 +1,5 @@
 -- What a canonical text promises.
-use Rattle.std.specs.Prelude.{◌≡◌, ℕ, List, All, Option, Some, Ok}
+use Rattle.std.specs.Prelude.{◌≡◌, ℕ, List, map, All, Option, Some, Ok}
 use Rattle.gx_num.specs.declared.ray.Ray.{Ray}
 use Rattle.gx_fraction.specs.Fraction.{Fraction}
 use Rattle.gx_text.specs.TextLine.{TextLine}
@@ -12,7 +12,7 @@ use Rattle.gx_decl.specs.Decl.{declared_of}
 use Rattle.gx_decl.specs.Range.{IsTraceable}
 use Rattle.gx_canon.specs.Text.{text_of, IsWord, IsLine, read_from, lines_from}
 use Rattle.gx_canon.specs.Words.{words_of}
-use Rattle.gx_canon.specs.Canonical.{declarations_of, millimetre}
+use Rattle.gx_canon.specs.Canonical.{declarations_of, canonical, millimetre}
 use Rattle.gx_canon.specs.Printable.{AreLowest, IsPrintable, IsPrintableVolume}
 
 -- the lines of a printed text, read, are those that were printed
@@ -28,6 +28,12 @@ pub record IsReadBack (d : Declaration) : Type 0 where
 abbrev pub DeclarationsBack : Type 0
 DeclarationsBack =
     (h : Hierarchy) (rays : List Ray) → IsTree h → All IsPrintableVolume h.volumes → All IsTraceable rays → All IsReadBack (declarations_of h rays)
+
+-- so the lines of a canonical text, read, are those of its declarations
+abbrev pub TextBack : Type 0
+TextBack =
+    (number : ℕ) (h : Hierarchy) (rays : List Ray) → IsTree h → All IsPrintableVolume h.volumes → All IsTraceable rays →
+    read_from number (cut (canonical h rays)) ≡ lines_from number (map words_of (declarations_of h rays))
 
 -- a line without a fault has words
 abbrev pub WordsAreWords : Type 0

@@ -1,9 +1,9 @@
 -- Texts as they are printed: words joined by one blank, and each line ended with LF. The form is this project's own.
-use Rattle.std.specs.Prelude.{◌≡◌, ◌≤◌, ℕ, ◌+◌, Bool, true, false, List, [], ◌∷◌, ◌++◌, length, All, ◌==◌, ◌&&◌, nat_le, Option, Result, Ok, None}
+use Rattle.std.specs.Prelude.{◌≡◌, ◌≤◌, ℕ, ◌+◌, Bool, true, false, List, [], ◌∷◌, ◌++◌, length, All, ◌==◌, ◌&&◌, nat_le, Option, Some, None, Result, Ok}
 use Rattle.std.specs.List.{list_all}
 use Rattle.gx_text.specs.declared.lines.LineFault.{LineFault}
 use Rattle.gx_text.specs.declared.lines.TheConstants.{MAX_LINE}
-use Rattle.gx_text.specs.Lines.{before_comment, ended, line_of}
+use Rattle.gx_text.specs.Lines.{before_comment, ended}
 use Rattle.gx_text.specs.TextLine.{TextLine}
 
 -- words with a blank between each and the next
@@ -29,6 +29,7 @@ pub record IsWord (word : List ℕ) : Type 0 where
 
 -- words that are a line without a fault
 pub record IsLine (words : List (List ℕ)) : Type 0 where
+  pub some : (length words == 0) ≡ false
   pub visible : All IsWord words
   pub short : length (joined words) ≤ MAX_LINE
 
@@ -40,4 +41,4 @@ read_from number (line ∷ lines) = ended number line ∷ read_from (number + 1)
 -- lines of these words, numbered on, and an empty one after them
 abbrev pub lines_from : ℕ → List (List (List ℕ)) → List (Result (Option TextLine) LineFault)
 lines_from number [] = Ok None ∷ []
-lines_from number (words ∷ lines) = Ok (line_of number words) ∷ lines_from (number + 1) lines
+lines_from number (words ∷ lines) = Ok (Some (record { number = number; words = words })) ∷ lines_from (number + 1) lines

@@ -1,5 +1,5 @@
 //! Laws over the definitions, each the contract of a function that does nothing.
-ghost use Rattle.gx_canon.specs.Laws.{LinesBack, DeclarationsBack, WordsAreWords, Kept};
+ghost use Rattle.gx_canon.specs.Laws.{LinesBack, DeclarationsBack, TextBack, WordsAreWords, Kept};
 
 /// The lines of a printed text are those that were printed.
 pub fn lines_back()
@@ -9,6 +9,11 @@ pub fn lines_back()
 /// Each line of a canonical text is without a fault, and declares what it was printed for.
 pub fn declarations_back()
     ensures { DeclarationsBack }
+{}
+
+/// The lines of a canonical text are those of its declarations.
+pub fn text_back()
+    ensures { TextBack }
 {}
 
 /// The words of a line without a fault are words.
