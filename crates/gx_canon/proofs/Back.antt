@@ -1,10 +1,8 @@
 -- Forms that read printed words back, on the grid of 1 mm.
-use Rattle.std.proofs.Common.{◌≡◌, ℕ, ◌+◌, ◌^◌, ◌<◌, ◌≤◌, ℤ, ◌≤ℤ◌, unsigned_abs, Bool, true, false, List, [], ◌∷◌, ◌++◌, flat_map, length, All, Some, Ok, refl, sym, ap, ◌∙◌, arith, append_assoc, append-nil, if◌then◌else◌}
+use Rattle.std.proofs.Common.{◌≡◌, ℕ, ◌+◌, ◌^◌, ◌<◌, ◌≤◌, ℤ, unsigned_abs, true, List, [], ◌∷◌, ◌++◌, flat_map, length, All, Some, Ok, refl, sym, ap, ◌∙◌, arith, append_assoc, append-nil}
 use Rattle.std.specs.Prelude.{int_le, ◌&&◌, ◌==◌, not, nat_le, slice_index}
 use Rattle.std.specs.Fmt.{signed_decimal}
 use Rattle.std.proofs.lemmas.Bool.{and_parts, leb-true}
-use Rattle.std.proofs.lemmas.Bool.Decides.{nat_tests}
-use Rattle.std.proofs.lemmas.Int.{ints}
 use Rattle.std.proofs.lemmas.List.Elements.{All-nil, All-cons, All-append, All-weaker, All-head, All-tail}
 use Rattle.gx_num.specs.declared.vector.TheConstants.{M}
 use Rattle.gx_num.specs.declared.vector.V3.{V3}
@@ -16,7 +14,6 @@ use Rattle.gx_expr.specs.Param.{Param}
 use Rattle.gx_form.specs.Form.{Outcome, and_then, ◌>>=◌, ◌>>◌, pure, collect_from}
 use Rattle.gx_decl.specs.Words.{Words, Reader, end, left, name, steps, whole, row_of}
 use Rattle.gx_decl.specs.Lines.{vector}
-use Rattle.gx_canon.specs.Text.{IsWord}
 use Rattle.gx_canon.specs.Words.{vector_words}
 use Rattle.gx_canon.specs.Canonical.{millimetre}
 use Rattle.gx_canon.specs.Printable.{IsNameWord}

@@ -1,20 +1,15 @@
 -- Each declaration of a canonical text is read back.
-use Rattle.std.proofs.Common.{◌≡◌, ℕ, ◌+◌, ◌*◌, ◌<◌, ◌≤◌, Bool, true, false, List, [], ◌∷◌, ◌++◌, map, flat_map, length, ◌==◌, get_or, pos, All, Option, Some, None, Ok, refl, ap, ◌∙◌, arith, codes, length-append}
-use Rattle.std.specs.Prelude.{nat_eq, nat_lt, filter, if◌then◌else◌}
+use Rattle.std.proofs.Common.{◌≡◌, ℕ, ◌+◌, ◌*◌, ◌<◌, ◌≤◌, false, List, [], ◌∷◌, ◌++◌, map, flat_map, length, ◌==◌, get_or, All, Option, Some, None, Ok, ap, arith, codes, length-append}
+use Rattle.std.specs.Prelude.{filter}
 use Rattle.std.specs.Fmt.{decimal}
-use Rattle.std.specs.Int.{from_bool}
-use Rattle.std.specs.Ordering.{int_eq}
-use Rattle.std.specs.List.{list_any, range_with_len}
+use Rattle.std.specs.List.{range_with_len}
 use Rattle.std.proofs.lemmas.Bool.{ne_eqb}
-use Rattle.std.proofs.lemmas.List.Elements.{All-nil, All-cons, All-head, All-tail, All-append, All-map, All-filter, All-weaker}
+use Rattle.std.proofs.lemmas.List.Elements.{All-nil, All-head, All-tail, All-append, All-map, All-filter, All-weaker}
 use Rattle.std.proofs.lemmas.List.FromFn.{length-range_with_len, get_or-range_with_len}
 use Rattle.gx_num.specs.declared.vector.V3.{V3}
-use Rattle.gx_num.specs.declared.ray.Ray.{Ray}
 use Rattle.gx_algebra.proofs.Lists.{All-append_parts}
 use Rattle.gx_rotation.specs.Matrix.{Matrix}
-use Rattle.gx_rotation.specs.Rotation.{number_of, matrix_of, axis_of, is_negative}
-use Rattle.gx_shapes.specs.declared.section.Section.{Section}
-use Rattle.gx_shapes.specs.declared.facet.Facet.{Facet}
+use Rattle.gx_rotation.specs.Rotation.{number_of, matrix_of}
 use Rattle.gx_shapes.specs.declared.figure.Figure.{Figure}
 use Rattle.gx_shapes.specs.declared.figure.Figure.TheVariants as figure
 use Rattle.gx_shapes.specs.Solid.{kind_of}
@@ -23,16 +18,15 @@ use Rattle.gx_shapes.proofs.Given.{given}
 use Rattle.gx_tree.specs.declared.placement.Placement.{Placement}
 use Rattle.gx_tree.specs.declared.placement.Placement.TheVariants as placement
 use Rattle.gx_tree.specs.Volume.{Volume, daughter_of}
-use Rattle.gx_tree.specs.Hierarchy.{Hierarchy, volume_at}
+use Rattle.gx_tree.specs.Hierarchy.{volume_at}
 use Rattle.gx_tree.specs.Limits.{IsPlaceable}
-use Rattle.gx_tree.specs.Fault.{IsTree}
 use Rattle.gx_decl.specs.declared.declaration.Declaration.{Declaration}
 use Rattle.gx_decl.specs.declared.declaration.Declaration.TheVariants as declaration
 use Rattle.gx_decl.specs.Decl.{line, answer_of, declared_of}
 use Rattle.gx_decl.specs.Range.{IsTraceable}
 use Rattle.gx_canon.specs.Text.{IsWord, IsLine}
 use Rattle.gx_canon.specs.Words.{corner_words, section_words, points_words, facet_words, kind_word, value_words, words_of}
-use Rattle.gx_canon.specs.Canonical.{millimetre, rotation_name, rotation_number, form_of, rotations_in, turns, volume_declared, placed, placements, declarations_of}
+use Rattle.gx_canon.specs.Canonical.{millimetre, rotation_name, is_used, turns, volume_declared, placed, placements, declarations_of}
 use Rattle.gx_canon.specs.Printable.{IsNameWord, HasLowestScales, IsPrintablePlacement, IsPrintableVolume}
 use Rattle.gx_canon.specs.Laws.{IsReadBack, DeclarationsBack, TextBack}
 use Rattle.gx_canon.proofs.Back.{Last}
@@ -40,6 +34,7 @@ use Rattle.gx_canon.proofs.Figures.{figure_back, facets_back}
 use Rattle.gx_canon.proofs.FewFacets.{few_facets}
 use Rattle.gx_canon.proofs.Lines.{lines_back}
 use Rattle.gx_canon.proofs.PrintedWords.{IsShortWord, size, joined_size, size-append, size-short}
+use Rattle.gx_canon.proofs.Rotations.{number_of-below}
 use Rattle.gx_canon.proofs.Tags.{ray_line, volume_line, replica_line, single_line, linear_line, square_line, turn_line, rotation_named}
 
 -- ---- a line that is read back
@@ -65,9 +60,8 @@ below-range n k d less = let below : k < n = omega (arith, length-range_with_len
 
 turns_back : (volumes : List Volume) → All IsReadBack (turns volumes)
 turns_back volumes =
-    let among = λ (k : ℕ). list_any (nat_eq k) (rotations_in volumes) in
-    All-map IsReadBack (λ k. declaration.Turn (rotation_name k) (matrix_of k)) (filter among (range_with_len 0 24))
-    (All-weaker (λ k. k < 24) (λ k. IsReadBack (declaration.Turn (rotation_name k) (matrix_of k))) (λ k h. few_words _ (turn_line k h) (omega arith)) (filter among (range_with_len 0 24)) (All-filter among (λ k. k < 24) (range_with_len 0 24) (below-range 24)))
+    All-map IsReadBack (λ k. declaration.Turn (rotation_name k) (matrix_of k)) (filter (is_used volumes) (range_with_len 0 24))
+    (All-weaker (λ k. k < 24) (λ k. IsReadBack (declaration.Turn (rotation_name k) (matrix_of k))) (λ k h. few_words _ (turn_line k h) (omega arith)) (filter (is_used volumes) (range_with_len 0 24)) (All-filter (is_used volumes) (λ k. k < 24) (range_with_len 0 24) (below-range 24)))
 
 -- ---- volumes
 
@@ -110,20 +104,6 @@ volumes_back volumes solids are =
     All-map IsReadBack volume_declared volumes (λ k d less. volume_back (get_or volumes k d) (solids k d less) (are k d less))
 
 -- ---- placements
-
-from_bool_below : (b : Bool) → from_bool b ≤ 1
-from_bool_below true = omega arith
-from_bool_below false = omega arith
-
-axis_by : (s t : Bool) → (if s then (if t then 2 else 1) else 0) ≤ 2
-axis_by true true = omega arith
-axis_by true false = omega arith
-axis_by false t = omega arith
-
-number_of-below : (m : Matrix) → number_of m < 24
-unfolding number_of
-number_of-below m =
-    omega (arith, axis_by (int_eq m.x.x (pos 0)) (int_eq m.x.y (pos 0)), from_bool_below (nat_lt (axis_of m.z) (axis_of m.y)), from_bool_below (is_negative m.x), from_bool_below (is_negative m.y))
 
 named : (m : Matrix) → IsNameWord (rotation_name (number_of m))
 named m = rotation_named (number_of m) (number_of-below m)

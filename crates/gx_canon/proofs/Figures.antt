@@ -1,5 +1,5 @@
 -- The values of a solid, as they are printed, are read back as it.
-use Rattle.std.proofs.Common.{◌≡◌, ℕ, suc, ◌+◌, ◌^◌, ◌<◌, ◌≤◌, ℤ, pos, ◌+ℤ◌, ◌≤ℤ◌, ◌<ℤ◌, unsigned_abs, Bool, true, false, List, [], ◌∷◌, ◌++◌, flat_map, length, All, Option, Some, None, Ok, refl, sym, ap, ◌∙◌, subst, arith}
+use Rattle.std.proofs.Common.{◌≡◌, ℕ, ◌≤◌, ℤ, pos, ◌+ℤ◌, ◌≤ℤ◌, ◌<ℤ◌, unsigned_abs, Bool, true, false, List, [], ◌∷◌, ◌++◌, flat_map, length, All, Option, Some, None, refl, sym, subst, arith}
 use Rattle.std.specs.Prelude.{int_le, int_lt, not, ◌&&◌, if◌then◌else◌}
 use Rattle.std.specs.Ordering.{int_eq}
 use Rattle.std.specs.Fmt.{decimal, signed_decimal}
@@ -10,9 +10,8 @@ use Rattle.std.proofs.lemmas.List.Elements.{All-weaker}
 use Rattle.gx_num.specs.declared.vector.V3.{V3}
 use Rattle.gx_num.specs.declared.vector.TheConstants.{M}
 use Rattle.gx_num.specs.Vector.{IsWithin}
-use Rattle.gx_table.specs.declared.fault.FaultName.{FaultName}
-use Rattle.gx_table.specs.declared.fault.FaultName.TheVariants.{Count, Vertices, Sections, Flat, NotConvex}
-use Rattle.gx_form.specs.Form.{Form, ◌>>=◌, pure, collect}
+use Rattle.gx_table.specs.declared.fault.FaultName.TheVariants.{Count, Sections, Flat, NotConvex}
+use Rattle.gx_form.specs.Form.{Form, pure, collect}
 use Rattle.gx_polygon.specs.Polygon.{is_straight, is_convex}
 use Rattle.gx_shapes.specs.declared.section.Section.{Section}
 use Rattle.gx_shapes.specs.declared.facet.Facet.{Facet}
@@ -22,19 +21,17 @@ use Rattle.gx_shapes.specs.declared.kind.SolidKind.TheVariants as kind
 use Rattle.gx_shapes.specs.Figure as spec
 use Rattle.gx_shapes.specs.Figure.{are_near}
 use Rattle.gx_shapes.specs.Extrusion.{are_whole}
-use Rattle.gx_shapes.specs.Numbers.{Numbers, start, numbers, number, pair, end}
-use Rattle.gx_shapes.specs.Source.{Source, refuse}
-use Rattle.gx_shapes.specs.Solid.{kind_of, whole_fault}
+use Rattle.gx_shapes.specs.Numbers.{Numbers, start, numbers, number, end}
+use Rattle.gx_shapes.specs.Solid.{kind_of}
 use Rattle.gx_shapes.specs.Accepted.{IsFigure, IsSolid, all_of}
 use Rattle.gx_shapes.proofs.Given.{Gives, then_gives, pure_gives, test_gives, near_value, IsHalf, IsWidths, IsCorner, IsSection, IsExtrusion, IsFacet, IsFourth, given}
 use Rattle.gx_shapes.proofs.Tessellations.{first_true-none}
-use Rattle.gx_decl.specs.Words.{Words, Reader}
 use Rattle.gx_decl.specs.Solids.{of_words}
 use Rattle.gx_canon.specs.Words.{vector_words, corner_words, section_words, scale_word, points_words, facet_words, value_words}
 use Rattle.gx_canon.specs.Printable.{IsLowestScale, HasLowestScales}
 use Rattle.gx_canon.proofs.Back.{Back, IsNear, then_back, word_then, map_back, pure_back, longer_back, collect_back, steps_back, whole_back}
 use Rattle.gx_canon.proofs.FewFacets.{few_facets}
-use Rattle.gx_canon.proofs.Scales.{IsSmallScale, small_section, scale_back}
+use Rattle.gx_canon.proofs.Scales.{small_section, scale_back}
 
 -- ---- half-lengths and points
 

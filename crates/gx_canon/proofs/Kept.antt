@@ -1,28 +1,20 @@
 -- What a line declares is printable, where its words are words and its parameters are in lowest terms.
-use Rattle.std.proofs.Common.{◌≡◌, ℕ, zero, suc, ◌+◌, ℤ, pos, negsuc, ◌≤ℤ◌, unsigned_abs, Bool, true, false, List, [], ◌∷◌, ◌++◌, length, All, Option, Some, None, Result, Ok, Err, refl, sym, ap, ◌∙◌, subst, arith, if◌then◌else◌}
-use Rattle.std.specs.Prelude.{int_le, int_lt, nat_le, nat_lt, not, ◌&&◌, ◌||◌, ◌==◌}
+use Rattle.std.proofs.Common.{◌≡◌, ℕ, zero, suc, ◌+◌, ℤ, pos, unsigned_abs, Bool, true, false, List, [], ◌∷◌, ◌++◌, length, All, Option, Some, None, Result, Ok, Err, refl, ap, subst, if◌then◌else◌}
+use Rattle.std.specs.Prelude.{int_le, not, ◌&&◌, ◌||◌, ◌==◌}
 use Rattle.std.specs.Ordering.{int_eq}
-use Rattle.std.proofs.lemmas.Bool.{and_parts}
-use Rattle.std.proofs.lemmas.Int.{ints}
 use Rattle.std.proofs.lemmas.List.Elements.{All-head, All-tail}
 use Rattle.gx_num.specs.declared.vector.V3.{V3}
-use Rattle.gx_fraction.specs.Fraction.{Fraction}
 use Rattle.gx_table.specs.declared.fault.FaultName.{FaultName}
 use Rattle.gx_table.specs.declared.fault.FaultName.TheVariants.{Words as WordsName}
 use Rattle.gx_table.specs.Table.{TableEntry, number_in}
 use Rattle.gx_text.specs.Names.{is_name_of}
-use Rattle.gx_expr.specs.declared.fault.ExprFault.{ExprFault}
 use Rattle.gx_expr.specs.declared.fault.WholeFault.{WholeFault}
 use Rattle.gx_expr.specs.declared.fault.WholeFault.TheVariants.{UnitKind as MarkedCount, Range}
 use Rattle.gx_expr.specs.Eval.{value_of_word}
-use Rattle.gx_expr.specs.Param.{Param}
-use Rattle.gx_expr.specs.Quantity.{Quantity}
 use Rattle.gx_expr.specs.Convert as convert
 use Rattle.gx_form.specs.declared.fault.Fault.{Fault}
-use Rattle.gx_form.specs.Form.{Outcome, and_then, ◌>>=◌, ◌>>◌, pure, collect_from, collect}
-use Rattle.gx_shapes.specs.declared.section.Scale.{Scale}
+use Rattle.gx_form.specs.Form.{Outcome, and_then, ◌>>=◌, pure, collect_from, collect}
 use Rattle.gx_shapes.specs.declared.section.Section.{Section}
-use Rattle.gx_shapes.specs.declared.figure.Figure.{Figure}
 use Rattle.gx_shapes.specs.declared.figure.Figure.TheVariants as figure
 use Rattle.gx_shapes.specs.declared.kind.SolidKind.{SolidKind}
 use Rattle.gx_shapes.specs.declared.kind.SolidKind.TheVariants as kind
@@ -170,7 +162,6 @@ abbrev AreLowestSections : Section × Section → Type 0
 AreLowestSections ends = IsLowestSection ends.0 × IsLowestSection ends.1
 
 module _ (values : Source Words) (is : IsSource values) where
-
   tested_keeps : {A : Type 0} (c : Bool) (fault : FaultName) (q : Reader A) (P : A → Type 0) → Keeps q P → Keeps (if c then refuse_value values fault else q) P
   tested_keeps c fault q P h = choice_keeps c (refuse_value values fault) q P (record { kept = λ s a t i e. absurd cc }) h
 

@@ -1,35 +1,32 @@
 -- What the line of each tag declares is printable.
-use Rattle.std.proofs.Common.{◌≡◌, ℕ, ◌+◌, ℤ, pos, negsuc, Bool, true, false, List, [], ◌∷◌, All, Option, Some, None, Result, Ok, Err, refl, sym, ap, subst, arith, if◌then◌else◌}
-use Rattle.std.specs.Prelude.{int_le, nat_lt, nat_le, ◌&&◌, ◌==◌, ◌-◌}
+use Rattle.std.proofs.Common.{◌≡◌, ℕ, pos, negsuc, Bool, true, false, List, Option, Some, None, Ok, Err, refl, ap, arith, if◌then◌else◌}
+use Rattle.std.specs.Prelude.{int_le, nat_lt, ◌==◌, ◌-◌}
 use Rattle.std.proofs.lemmas.Bool.{and_parts}
 use Rattle.std.proofs.lemmas.Int.{ints}
-use Rattle.gx_fraction.specs.Fraction.{Fraction}
 use Rattle.gx_table.specs.declared.fault.FaultName.{FaultName}
 use Rattle.gx_table.specs.declared.fault.FaultName.TheVariants.{Tag as TagName, Copies, Direction}
-use Rattle.gx_expr.specs.Param.{Param}
-use Rattle.gx_form.specs.Form.{Outcome, and_then, ◌>>=◌, ◌>>◌, pure}
+use Rattle.gx_form.specs.Form.{Outcome, and_then, ◌>>=◌, pure}
 use Rattle.gx_shapes.specs.declared.figure.Figure.{Figure}
 use Rattle.gx_shapes.specs.Solid.{whole_fault}
 use Rattle.gx_shapes.specs.Figure.{figure_in}
 use Rattle.gx_shapes.proofs.Given.{Gives, then_gives, pure_gives}
 use Rattle.gx_decl.specs.declared.declaration.Declaration.{Declaration}
 use Rattle.gx_decl.specs.declared.declaration.Declaration.TheVariants as declaration
-use Rattle.gx_decl.specs.declared.declaration.Form.{Form as PlaceForm}
 use Rattle.gx_decl.specs.declared.declaration.Form.TheVariants as form
 use Rattle.gx_decl.specs.declared.tag.Tag.{Tag}
 use Rattle.gx_decl.specs.declared.tag.Tag.TheVariants as of_tag
 use Rattle.gx_decl.specs.Words as words
 use Rattle.gx_decl.specs.Words.{Words, Reader}
-use Rattle.gx_decl.specs.Decl.{tags, tag_of, tag, after_tag, line, unread, answer_of, declared_of}
+use Rattle.gx_decl.specs.Decl.{tags, tag_of, tag, after_tag, line, unread, answer_of}
 use Rattle.gx_decl.specs.Lines as lines
 use Rattle.gx_decl.specs.Solids as solids
 use Rattle.gx_decl.specs.Solids.{of_words}
 use Rattle.gx_decl.specs.Placements as placements
 use Rattle.gx_decl.specs.Turns as turns
 use Rattle.gx_canon.specs.Text.{IsWord}
-use Rattle.gx_canon.specs.Printable.{IsLowestFraction, AreLowest, HasLowestScales, IsCopy, HasCopy, IsPrintable}
+use Rattle.gx_canon.specs.Printable.{IsLowestFraction, HasLowestScales, IsCopy, HasCopy, IsPrintable}
 use Rattle.gx_canon.specs.Laws.{Kept}
-use Rattle.gx_canon.proofs.Kept.{IsReading, Keeps, Anything, then_keeps, pure_keeps, choice_keeps, refuse_keeps, name_keeps, param_name_keeps, row_keeps, end_keeps, left_keeps, expression_keeps, whole_keeps, figure_keeps}
+use Rattle.gx_canon.proofs.Kept.{IsReading, Keeps, Anything, then_keeps, pure_keeps, choice_keeps, name_keeps, param_name_keeps, row_keeps, end_keeps, left_keeps, expression_keeps, whole_keeps, figure_keeps}
 
 -- ---- parameters, solids and volumes
 

@@ -39,13 +39,13 @@ abbrev ray : Ray
 ray = record { o = point (neg_ℤ (pos 30)) (pos 0) (pos 0); d = point (pos 1) (pos 0) (pos 0) }
 
 pair_text : canonical pair (ray ∷ []) ≡ flat_map (λ line. line ++ 10 ∷ []) (
-  codes ":ROTM R0 1 0 0 0 1 0 0 0 1"
-  ∷ codes ":VOLU world BOX 20 20 20 Air"
-  ∷ codes ":VOLU b BOX 5 5 5 Lead"
-  ∷ codes ":PLACE b 1 world R0 -5 0 0"
-  ∷ codes ":PLACE b 2 world R0 5 0 0"
-  ∷ codes ":RAY -30 0 0 1 0 0" ∷ []
-)
+    codes ":ROTM R0 1 0 0 0 1 0 0 0 1"
+    ∷ codes ":VOLU world BOX 20 20 20 Air"
+    ∷ codes ":VOLU b BOX 5 5 5 Lead"
+    ∷ codes ":PLACE b 1 world R0 -5 0 0"
+    ∷ codes ":PLACE b 2 world R0 5 0 0"
+    ∷ codes ":RAY -30 0 0 1 0 0" ∷ []
+    )
 unfolding digits matrix_of number_of
 pair_text = refl
 
@@ -73,16 +73,16 @@ abbrev facet : Option V3 → Facet
 facet d = record { a = point (pos 0) (pos 0) (pos 0); b = point (pos 9) (pos 0) (pos 0); c = point (pos 0) (pos 9) (pos 0); d = d }
 
 solids : map (λ f. joined (words_of (volume f))) (
-  figure.Trd (pos 1) (pos 2) (pos 3) (pos 4) (pos 5)
-  ∷ figure.Tet (point (pos 0) (pos 0) (pos 0)) (point (pos 1) (pos 0) (pos 0)) (point (pos 0) (pos 2) (pos 0)) (point (pos 0) (pos 0) (neg_ℤ (pos 16)))
-  ∷ figure.Extruded (point (pos 0) (pos 0) (pos 0) ∷ point (pos 8) (pos 0) (pos 0) ∷ point (pos 0) (pos 8) (pos 0) ∷ []) (end (neg_ℤ (pos 5)) (pos 1)) (end (pos 5) (pos 2))
-  ∷ figure.Tessellated (facet None ∷ facet (Some (point (pos 9) (pos 9) (pos 0))) ∷ []) ∷ []
-) ≡ codes ":VOLU v TRD 1 2 3 4 5 Iron" ∷ codes ":VOLU v TET 0 0 0 1 0 0 0 2 0 0 0 -16 Iron" ∷ codes ":VOLU v EXTRUDED 3 0 0 8 0 0 8 2 -5 0 3 1 5 0 3 1/2 Iron" ∷ codes ":VOLU v TESSELLATED 2 3 0 0 0 9 0 0 0 9 0 4 0 0 0 9 0 0 0 9 0 9 9 0 Iron" ∷ []
+    figure.Trd (pos 1) (pos 2) (pos 3) (pos 4) (pos 5)
+    ∷ figure.Tet (point (pos 0) (pos 0) (pos 0)) (point (pos 1) (pos 0) (pos 0)) (point (pos 0) (pos 2) (pos 0)) (point (pos 0) (pos 0) (neg_ℤ (pos 16)))
+    ∷ figure.Extruded (point (pos 0) (pos 0) (pos 0) ∷ point (pos 8) (pos 0) (pos 0) ∷ point (pos 0) (pos 8) (pos 0) ∷ []) (end (neg_ℤ (pos 5)) (pos 1)) (end (pos 5) (pos 2))
+    ∷ figure.Tessellated (facet None ∷ facet (Some (point (pos 9) (pos 9) (pos 0))) ∷ []) ∷ []
+    ) ≡ codes ":VOLU v TRD 1 2 3 4 5 Iron" ∷ codes ":VOLU v TET 0 0 0 1 0 0 0 2 0 0 0 -16 Iron" ∷ codes ":VOLU v EXTRUDED 3 0 0 8 0 0 8 2 -5 0 3 1 5 0 3 1/2 Iron" ∷ codes ":VOLU v TESSELLATED 2 3 0 0 0 9 0 0 0 9 0 4 0 0 0 9 0 0 0 9 0 9 9 0 Iron" ∷ []
 unfolding digits
 solids = refl
 
 placements : map (λ d. joined (words_of d)) (
-  place None (form.Replica 2 4 (pos 10)) ∷ place (Some (codes "R3")) (form.Linear 1 3 (pos 20) (neg_ℤ (pos 20))) ∷ place (Some (codes "R3")) (form.Square 1 2 3 (pos 4) (pos 5) (neg_ℤ (pos 6)) (pos 7)) ∷ []
-) ≡ codes ":REPL v m Z 4 10" ∷ codes ":PLACE_PARAM v 0 m LINEAR_Y R3 3 20 -20" ∷ codes ":PLACE_PARAM v 0 m SQUARE_XZ R3 2 3 4 5 -6 7" ∷ []
+    place None (form.Replica 2 4 (pos 10)) ∷ place (Some (codes "R3")) (form.Linear 1 3 (pos 20) (neg_ℤ (pos 20))) ∷ place (Some (codes "R3")) (form.Square 1 2 3 (pos 4) (pos 5) (neg_ℤ (pos 6)) (pos 7)) ∷ []
+    ) ≡ codes ":REPL v m Z 4 10" ∷ codes ":PLACE_PARAM v 0 m LINEAR_Y R3 3 20 -20" ∷ codes ":PLACE_PARAM v 0 m SQUARE_XZ R3 2 3 4 5 -6 7" ∷ []
 unfolding digits
 placements = refl

@@ -11,5 +11,6 @@ pub mod Lines
 pub mod Lowest
 pub mod Numbers
 pub mod PrintedWords
+pub mod Rotations
 pub mod Scales
 pub mod Tags

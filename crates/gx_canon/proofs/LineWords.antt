@@ -1,6 +1,6 @@
 -- The words of any line without a fault are words.
 use Rattle.std.proofs.Common.{◌≡◌, ℕ, Bool, true, false, List, [], ◌∷◌, ◌++◌, length, All, Option, None, Some, Ok, refl, ap, subst, arith, ◌≤◌, inl, inr}
-use Rattle.std.specs.Prelude.{position, not, nat_lt, ◌==◌, ◌||◌, filter}
+use Rattle.std.specs.Prelude.{position, not, nat_lt, ◌==◌, filter}
 use Rattle.std.specs.List.{list_all, slice_split, position_or_len, onto_first}
 use Rattle.std.specs.Str.Lines.{strip_carriage_return}
 use Rattle.std.proofs.lemmas.Bool.{and_parts, cases_Bool, ltb-false}

@@ -1,5 +1,5 @@
 -- Printed numbers, read: what they are worth.
-use Rattle.std.proofs.Common.{◌≡◌, ℕ, suc, ◌+◌, ◌-◌, ◌*◌, ◌^◌, ◌<◌, ◌≤◌, ◌==◌, ℤ, pos, negsuc, neg_ℤ, ◌+ℤ◌, ◌*ℤ◌, unsigned_abs, Bool, true, false, List, [], ◌∷◌, ◌++◌, length, take, drop, fold, Option, None, Some, Ok, Result, nat_lt, refl, sym, ap, ◌∙◌, arith, rules, zero-mul, one-add, inl, inr, length-drop, length-take, append-nil}
+use Rattle.std.proofs.Common.{◌≡◌, ℕ, suc, ◌+◌, ◌-◌, ◌*◌, ◌^◌, ◌<◌, ◌≤◌, ◌==◌, ℤ, pos, negsuc, neg_ℤ, ◌+ℤ◌, ◌*ℤ◌, unsigned_abs, Bool, true, false, List, [], ◌∷◌, ◌++◌, length, drop, fold, Some, Ok, nat_lt, refl, sym, ap, ◌∙◌, arith, rules, zero-mul, one-add, inl, inr, length-drop, length-take, append-nil}
 use Rattle.std.specs.Prelude.{if◌then◌else◌, int_div, int_lt, int_le, nat_le}
 use Rattle.std.specs.Ordering.{int_eq}
 use Rattle.std.specs.Fmt.{decimal, signed_decimal}
@@ -19,7 +19,6 @@ use Rattle.gx_num.specs.declared.vector.TheConstants.{M}
 use Rattle.gx_fraction.specs.Fraction.{Fraction, lowest}
 use Rattle.gx_expr.specs.declared.operator.SumSign.TheVariants.{Minus}
 use Rattle.gx_expr.specs.declared.operator.ProductSign.TheVariants.{Over}
-use Rattle.gx_expr.specs.declared.fault.ExprFault.{ExprFault}
 use Rattle.gx_expr.specs.Convert.{whole_ratio, steps, count}
 use Rattle.gx_expr.specs.Descent.{anywhere, IsRead}
 use Rattle.gx_expr.specs.Eval.{zeros_before, zeros_after, trimmed, front_of, if_short, value_of_decimal, value_of_word}

@@ -1,6 +1,6 @@
 -- The lines of each tag, as they are printed, are read back.
-use Rattle.std.proofs.Common.{◌≡◌, ℕ, zero, suc, ◌+◌, ◌-◌, ◌*◌, ◌^◌, ◌<◌, ◌≤◌, ℤ, pos, negsuc, unsigned_abs, Bool, true, false, List, [], ◌∷◌, ◌++◌, length, All, Option, Some, None, Ok, refl, sym, ap, ◌∙◌, codes, arith, length-append}
-use Rattle.std.specs.Prelude.{int_le, nat_le, nat_lt, not, ◌&&◌, if◌then◌else◌, ◌==◌}
+use Rattle.std.proofs.Common.{◌≡◌, ℕ, zero, suc, ◌+◌, ◌-◌, ◌*◌, ◌<◌, ◌≤◌, ℤ, pos, negsuc, unsigned_abs, true, false, List, [], ◌∷◌, ◌++◌, length, Some, None, Ok, refl, codes, arith, length-append}
+use Rattle.std.specs.Prelude.{int_le, nat_le, nat_lt, ◌&&◌, if◌then◌else◌, ◌==◌}
 use Rattle.std.specs.Fmt.{signed_decimal, decimal, digits}
 use Rattle.std.proofs.lemmas.Bool.{ne_eqb, agree_below_at, and_parts, leb-true, eqb-true}
 use Rattle.std.specs.List.{list_all}
@@ -13,7 +13,7 @@ use Rattle.gx_num.specs.Vector.{IsWithin}
 use Rattle.gx_text.specs.Lines.{before_comment}
 use Rattle.gx_table.specs.Table.{number_in}
 use Rattle.gx_table.specs.declared.fault.FaultName.TheVariants.{Tag, Axis, Copies, SolidKind as UnknownKind}
-use Rattle.gx_form.specs.Form.{◌>>=◌, pure}
+use Rattle.gx_form.specs.Form.{pure}
 use Rattle.gx_text.specs.Names.{is_name_of}
 use Rattle.gx_rotation.specs.Matrix.{Matrix}
 use Rattle.gx_rotation.specs.Rotation.{matrix_of, is_unit}
@@ -29,9 +29,9 @@ use Rattle.gx_decl.specs.declared.declaration.Declaration.{Declaration}
 use Rattle.gx_decl.specs.declared.declaration.Declaration.TheVariants.{Volume, Place, Turn, Trace}
 use Rattle.gx_decl.specs.declared.declaration.Form.{Form}
 use Rattle.gx_decl.specs.declared.declaration.Form.TheVariants.{Single, Replica, Linear, Square}
-use Rattle.gx_decl.specs.Words.{Reader, row_of}
+use Rattle.gx_decl.specs.Words.{row_of}
 use Rattle.gx_decl.specs.Decl.{tags, tag_of, after_tag, line}
-use Rattle.gx_decl.specs.Lines.{vector, is_zero}
+use Rattle.gx_decl.specs.Lines.{vector}
 use Rattle.gx_decl.specs.Placements as placements
 use Rattle.gx_decl.specs.Placements.{axes, row_kinds, does_reach, copies, copy_number}
 use Rattle.gx_decl.specs.Turns as turns
@@ -39,11 +39,11 @@ use Rattle.gx_decl.specs.Turns.{entry, matrix9}
 use Rattle.gx_decl.specs.Solids as solids
 use Rattle.gx_decl.specs.Solids.{kinds}
 use Rattle.gx_decl.specs.Range.{IsCount, IsRow, IsReplica, IsLinear, IsSquare, IsTraceable}
-use Rattle.gx_canon.specs.Text.{is_visible, IsWord}
+use Rattle.gx_canon.specs.Text.{is_visible}
 use Rattle.gx_canon.specs.Words.{vector_words, kind_word, value_words, axis_word, linear_word, square_word, place_words, words_of}
 use Rattle.gx_canon.specs.Canonical.{rotation_name}
 use Rattle.gx_canon.specs.Printable.{IsNameWord, IsCopy, HasLowestScales}
-use Rattle.gx_canon.proofs.Back.{Back, Last, single, then_back, then_last, word_last, word_then, last_then, pure_back, pure_last, end_last, left_last, row_back, name_back, steps_back, whole_back, vector_back}
+use Rattle.gx_canon.proofs.Back.{Back, Last, single, then_last, word_last, word_then, last_then, pure_back, pure_last, end_last, left_last, row_back, name_back, steps_back, whole_back, vector_back}
 use Rattle.gx_canon.proofs.Figures.{figure_back}
 use Rattle.gx_canon.proofs.Numbers.{whole_back as whole_worth, count_whole}
 use Rattle.gx_canon.proofs.PrintedWords.{IsShortWord, signed_short, plain_word, decimal_plain}

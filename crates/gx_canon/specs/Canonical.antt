@@ -1,7 +1,7 @@
 -- The canonical text of a hierarchy and its rays: rotations, volumes, placements and rays, a line for each. It is this project's own.
-use Rattle.std.specs.Prelude.{ℕ, pos, nat_eq, List, ◌∷◌, ◌++◌, map, flat_map, filter, Option, None, Some}
-use Rattle.std.specs.List.{list_any, range_with_len, filter_map}
-use Rattle.std.specs.Option.{option_map}
+use Rattle.std.specs.Prelude.{ℕ, pos, nat_eq, Bool, false, List, ◌∷◌, ◌++◌, map, flat_map, filter, Option, None, Some}
+use Rattle.std.specs.List.{list_any, range_with_len}
+use Rattle.std.specs.Option.{option_map, unwrap_or}
 use Rattle.std.specs.Fmt.{decimal}
 use Rattle.gx_num.specs.declared.ray.Ray.{Ray}
 use Rattle.gx_fraction.specs.Fraction.{Fraction}
@@ -35,14 +35,13 @@ form_of (placement.Linear volume axis rotation count step offset) = form.Linear 
 form_of (placement.Square volume plane rotation first_count second_count first_step second_step first_offset second_offset) =
     form.Square plane first_count second_count first_step second_step first_offset second_offset
 
--- the numbers of the rotations that stand in placements
-abbrev pub rotations_in : List Volume → List ℕ
-rotations_in volumes = flat_map (λ v. filter_map rotation_number v.placements) volumes
+-- some placement has the rotation of this number
+abbrev pub is_used : List Volume → ℕ → Bool
+is_used volumes k = list_any (λ v. list_any (λ p. unwrap_or (option_map (nat_eq k) (rotation_number p)) false) v.placements) volumes
 
--- each of them once, in increasing order
+-- the rotations of placements, each once, in increasing order
 abbrev pub turns : List Volume → List Declaration
-turns volumes =
-    map (λ k. declaration.Turn (rotation_name k) (matrix_of k)) (filter (λ k. list_any (nat_eq k) (rotations_in volumes)) (range_with_len 0 24))
+turns volumes = map (λ k. declaration.Turn (rotation_name k) (matrix_of k)) (filter (is_used volumes) (range_with_len 0 24))
 
 abbrev pub volume_declared : Volume → Declaration
 volume_declared v = declaration.Volume v.name v.solid v.material

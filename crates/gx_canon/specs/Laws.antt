@@ -1,18 +1,21 @@
 -- What a canonical text promises.
-use Rattle.std.specs.Prelude.{◌≡◌, ℕ, List, map, All, Option, Some, Ok}
+use Rattle.std.specs.Prelude.{◌≡◌, ℕ, ◌<◌, IfSome, Contains, List, map, All, Some, Ok}
 use Rattle.gx_num.specs.declared.ray.Ray.{Ray}
 use Rattle.gx_fraction.specs.Fraction.{Fraction}
 use Rattle.gx_text.specs.TextLine.{TextLine}
 use Rattle.gx_text.specs.Lines.{cut, ended}
 use Rattle.gx_expr.specs.Param.{Param}
+use Rattle.gx_tree.specs.declared.placement.Placement.{Placement}
+use Rattle.gx_tree.specs.Volume.{Volume, rotation_of}
 use Rattle.gx_tree.specs.Hierarchy.{Hierarchy}
 use Rattle.gx_tree.specs.Fault.{IsTree}
 use Rattle.gx_decl.specs.declared.declaration.Declaration.{Declaration}
+use Rattle.gx_decl.specs.declared.declaration.Declaration.TheVariants.{Turn}
 use Rattle.gx_decl.specs.Decl.{declared_of}
 use Rattle.gx_decl.specs.Range.{IsTraceable}
 use Rattle.gx_canon.specs.Text.{text_of, IsWord, IsLine, read_from, lines_from}
 use Rattle.gx_canon.specs.Words.{words_of}
-use Rattle.gx_canon.specs.Canonical.{declarations_of, canonical, millimetre}
+use Rattle.gx_canon.specs.Canonical.{rotation_name, rotation_number, turns, declarations_of, canonical, millimetre}
 use Rattle.gx_canon.specs.Printable.{AreLowest, IsPrintable, IsPrintableVolume}
 
 -- the lines of a printed text, read, are those that were printed
@@ -34,6 +37,15 @@ abbrev pub TextBack : Type 0
 TextBack =
     (number : ℕ) (h : Hierarchy) (rays : List Ray) → IsTree h → All IsPrintableVolume h.volumes → All IsTraceable rays →
     read_from number (cut (canonical h rays)) ≡ lines_from number (map words_of (declarations_of h rays))
+
+-- a placement's rotation is declared by its name
+abbrev pub IsNamed : List Volume → Placement → Type 0
+IsNamed volumes p = IfSome (rotation_number p) (λ k. Contains (turns volumes) (Turn (rotation_name k) (rotation_of p)))
+
+-- so is each, and the names of rotations differ
+pub record RotationsBack : Type 0 where
+  pub named : (h : Hierarchy) → IsTree h → All (λ v. All (IsNamed h.volumes) v.placements) h.volumes
+  pub apart : (j k : ℕ) → j < 24 → k < 24 → rotation_name j ≡ rotation_name k → j ≡ k
 
 -- a line without a fault has words
 abbrev pub WordsAreWords : Type 0

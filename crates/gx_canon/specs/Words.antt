@@ -1,6 +1,6 @@
 -- The words of declarations as they are printed: numbers in decimal, a scale as p/q, and as p where q is 1, kinds and axes in capitals.
 -- Lengths are in steps. The forms are those that lines are read in.
-use Rattle.std.specs.Prelude.{ℕ, ℤ, unsigned_abs, ◌==◌, if◌then◌else◌, List, [], ◌∷◌, ◌++◌, codes, flat_map, length, Option, None, Some}
+use Rattle.std.specs.Prelude.{ℕ, unsigned_abs, ◌==◌, if◌then◌else◌, List, [], ◌∷◌, ◌++◌, codes, flat_map, length, Option, None, Some}
 use Rattle.std.specs.Fmt.{decimal, signed_decimal}
 use Rattle.gx_num.specs.declared.vector.V3.{V3}
 use Rattle.gx_shapes.specs.declared.section.Scale.{Scale}
@@ -11,7 +11,6 @@ use Rattle.gx_shapes.specs.declared.figure.Figure.TheVariants as figure
 use Rattle.gx_shapes.specs.declared.kind.SolidKind.{SolidKind}
 use Rattle.gx_shapes.specs.declared.kind.SolidKind.TheVariants as kind
 use Rattle.gx_shapes.specs.Solid.{kind_of}
-use Rattle.gx_rotation.specs.Matrix.{Matrix}
 use Rattle.gx_decl.specs.declared.declaration.Declaration.{Declaration}
 use Rattle.gx_decl.specs.declared.declaration.Declaration.TheVariants as declaration
 use Rattle.gx_decl.specs.declared.declaration.Form.{Form}

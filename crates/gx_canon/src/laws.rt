@@ -1,5 +1,5 @@
 //! Laws over the definitions, each the contract of a function that does nothing.
-ghost use Rattle.gx_canon.specs.Laws.{LinesBack, DeclarationsBack, TextBack, WordsAreWords, Kept};
+ghost use Rattle.gx_canon.specs.Laws.{LinesBack, DeclarationsBack, TextBack, RotationsBack, WordsAreWords, Kept};
 
 /// The lines of a printed text are those that were printed.
 pub fn lines_back()
@@ -14,6 +14,11 @@ pub fn declarations_back()
 /// The lines of a canonical text are those of its declarations.
 pub fn text_back()
     ensures { TextBack }
+{}
+
+/// The rotation of each placement is declared by its name, and no other is.
+pub fn rotations_back()
+    ensures { RotationsBack }
 {}
 
 /// The words of a line without a fault are words.
