@@ -1,11 +1,12 @@
 -- The words of any line without a fault are words.
 use Rattle.std.proofs.Common.{◌≡◌, ℕ, Bool, true, false, List, [], ◌∷◌, ◌++◌, length, All, Option, None, Some, Ok, refl, ap, subst, arith, ◌≤◌, inl, inr}
 use Rattle.std.specs.Prelude.{position, not, nat_lt, ◌==◌, filter}
-use Rattle.std.specs.List.{list_all, slice_split, position_or_len, onto_first}
+use Rattle.std.specs.List.{AllPass, slice_split, position_or_len, onto_first}
 use Rattle.std.specs.Str.Lines.{strip_carriage_return}
-use Rattle.std.proofs.lemmas.Bool.{and_parts, cases_Bool, ltb-false}
+use Rattle.std.proofs.lemmas.Bool.{or_parts, cases_Bool, ltb-false}
 use Rattle.std.proofs.lemmas.Bool.Decides.{nat_tests}
 use Rattle.std.proofs.lemmas.List.Elements.{All-nil, All-cons, All-head, All-tail}
+use Rattle.std.proofs.lemmas.List.Sums.{prefix_len_passes}
 use Rattle.gx_text.specs.declared.lines.TheConstants.{MAX_LINE}
 use Rattle.gx_text.specs.Lines.{begins_comment, is_allowed, is_blank, visible_of, words_of, fault_of, fault_at, line_of, ended_with}
 use Rattle.gx_text.specs.declared.lines.LineFault.{LineFault}
@@ -13,16 +14,16 @@ use Rattle.gx_text.specs.TextLine.{TextLine}
 use Rattle.gx_text.specs.PartialLine.{has_comment}
 use Rattle.gx_canon.specs.Text.{is_visible, IsWord}
 use Rattle.gx_canon.specs.Laws.{WordsAreWords}
-use Rattle.gx_canon.proofs.Bytes.{neither, before_bare, before_clear}
+use Rattle.gx_canon.proofs.Bytes.{before_bare, before_clear}
 
 -- ---- all bytes before the comment are allowed
 
-all_by : (line : List ℕ) → length line ≤ position_or_len (λ b. not (is_allowed b)) line → list_all is_allowed line ≡ true
-all_by [] e = refl
-all_by (b ∷ line) e = elim (cases_Bool (is_allowed b)) [
-  | inl good ↦ let e2 = rw good at e in rw good (all_by line (omega (arith, e2)))
-  | inr bad ↦ let e2 = rw bad at e in absurd (omega (arith, e2))
-]
+allowed : (b : Bool) → not (not b) ≡ true → b ≡ true
+allowed true h = refl
+allowed false h = h
+
+all_by : (line : List ℕ) → length line ≤ position_or_len (λ b. not (is_allowed b)) line → AllPass is_allowed line
+all_by line e k d less = allowed _ (prefix_len_passes (λ b. not (not (is_allowed b))) line k d (omega (arith, e, less)))
 
 some_fault : (number : ℕ) (line : List ℕ) (place : ℕ) → fault_at number line (Some place) ≡ None → ⊥
 some_fault number line place h = elim (cases_Bool (nat_lt place MAX_LINE)) [
@@ -30,7 +31,7 @@ some_fault number line place h = elim (cases_Bool (nat_lt place MAX_LINE)) [
   | inr e ↦ let h2 = rw e at h in cc
 ]
 
-none_at : (number : ℕ) (line v : List ℕ) → fault_at number line (position (λ b. not (is_allowed b)) v) ≡ None → list_all is_allowed v ≡ true
+none_at : (number : ℕ) (line v : List ℕ) → fault_at number line (position (λ b. not (is_allowed b)) v) ≡ None → AllPass is_allowed v
 none_at number line v h = elim (cases_Bool (nat_lt (position_or_len (λ b. not (is_allowed b)) v) (length v))) [
   | inl e ↦ absurd (some_fault number line (position_or_len (λ b. not (is_allowed b)) v) (let h2 = rw e at h in h2))
   | inr e ↦ all_by v (ltb-false _ _ e)
@@ -40,11 +41,11 @@ none_at number line v h = elim (cases_Bool (nat_lt (position_or_len (λ b. not (
 
 -- no comment, and only bytes of words
 record IsPart (part : List ℕ) : Type 0 where
-  visible : list_all is_visible part ≡ true
+  visible : AllPass is_visible part
   clear : has_comment part ≡ false
 
 empty : IsPart []
-empty = record { visible = refl; clear = refl }
+empty = record { visible = All-nil (λ b. is_visible b ≡ true); clear = refl }
 
 -- the text cut at its blanks; the first part is a front of the text
 record Cut (text : List ℕ) : Type 0 where
@@ -80,16 +81,15 @@ cut_more b text false e a n c = record {
   rest = c.rest;
   cut = rw e (ap (onto_first b) c.cut);
   front = ap (λ (x : List ℕ). b ∷ x) c.front;
-  first = record { visible = rw (seen b a e) c.first.visible; clear = rw (front_begins b c.head c.rest (rw c.front at n)) c.first.clear };
+  first = record { visible = All-cons (λ b. is_visible b ≡ true) b c.head (seen b a e) c.first.visible; clear = rw (front_begins b c.head c.rest (rw c.front at n)) c.first.clear };
   parts = c.parts;
 }
 
-cut_of : (text : List ℕ) → list_all is_allowed text ≡ true → has_comment text ≡ false → Cut text
+cut_of : (text : List ℕ) → AllPass is_allowed text → has_comment text ≡ false → Cut text
 cut_of [] a n = record { head = []; others = []; rest = []; cut = refl; front = refl; first = empty; parts = All-nil IsPart }
 cut_of (b ∷ text) a n =
-    let good = and_parts (is_allowed b) (list_all is_allowed text) a in
-    let none = neither (begins_comment (b ∷ text)) (has_comment text) n in
-    cut_more b text (is_blank b) refl good.0 none.0 (cut_of text good.1 none.1)
+    let none = or_parts (begins_comment (b ∷ text)) (has_comment text) n in
+    cut_more b text (is_blank b) refl (All-head (λ b. is_allowed b ≡ true) b text a) none.0 (cut_of text (All-tail (λ b. is_allowed b ≡ true) b text a) none.1)
 
 kept : (ws : List (List ℕ)) → All IsPart ws → All IsWord (filter (λ word. not (length word == 0)) ws)
 kept [] h = All-nil IsWord

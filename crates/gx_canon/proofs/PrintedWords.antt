@@ -3,15 +3,15 @@ use Rattle.std.proofs.Common.{◌≡◌, ℕ, suc, ◌+◌, ◌*◌, ◌^◌, �
 use Rattle.std.specs.Prelude.{not, ◌==◌, ◌&&◌}
 use Rattle.std.specs.Fmt.{decimal, signed_decimal}
 use Rattle.std.specs.Char.{is_ascii_digit}
-use Rattle.std.specs.List.{list_all}
+use Rattle.std.specs.List.{AllPass}
 use Rattle.std.proofs.lemmas.Bool.{and_parts, ne_eqb}
 use Rattle.std.proofs.lemmas.Bool.Decides.{nat_tests}
 use Rattle.std.proofs.lemmas.Fmt.{decimal_nonempty, length-decimal-le}
-use Rattle.std.proofs.lemmas.List.Folds.{list_all-append}
-use Rattle.std.proofs.lemmas.List.Elements.{All-head, All-tail}
+use Rattle.std.proofs.lemmas.List.Elements.{All-cons, All-head, All-tail, All-append, All-weaker}
+use Rattle.std.proofs.lemmas.List.Sums.{AllPass-from_list_all}
 use Rattle.gx_text.specs.PartialLine.{has_comment}
 use Rattle.gx_canon.specs.Text.{joined, is_visible, IsWord}
-use Rattle.gx_canon.proofs.Bytes.{all_of, before_bare}
+use Rattle.gx_canon.proofs.Bytes.{before_bare}
 use Rattle.gx_canon.proofs.Numbers.{decimal_digits}
 
 -- a byte of a word that is no `/`
@@ -27,35 +27,34 @@ no_slash b h = grind (arith, nat_tests, h)
 digit_plain : (b : ℕ) → is_ascii_digit b ≡ true → is_plain b ≡ true
 digit_plain b h = grind (arith, nat_tests, h)
 
-clear_more : (b : ℕ) (rest : List ℕ) → b == 47 ≡ false → has_comment rest ≡ false → has_comment (b ∷ rest) ≡ false
+clear_more : (b : ℕ) (rest : List ℕ) → is_plain b ≡ true → has_comment rest ≡ false → has_comment (b ∷ rest) ≡ false
 clear_more b [] e h = refl
-clear_more b (c ∷ rest) e h = rw e h
+clear_more b (c ∷ rest) e h = rw (no_slash b e) h
 
-plain_clear : (w : List ℕ) → list_all is_plain w ≡ true → has_comment w ≡ false
+plain_clear : (w : List ℕ) → AllPass is_plain w → has_comment w ≡ false
 plain_clear [] h = refl
-plain_clear (b ∷ w) h =
-    let parts = and_parts (is_plain b) (list_all is_plain w) h in
-    clear_more b w (no_slash b parts.0) (plain_clear w parts.1)
+plain_clear (b ∷ w) h = clear_more b w (All-head (λ b. is_plain b ≡ true) b w h) (plain_clear w (All-tail (λ b. is_plain b ≡ true) b w h))
 
 -- one `/` is no comment
-slash_clear : (w v : List ℕ) → list_all is_plain w ≡ true → list_all is_plain v ≡ true → has_comment (w ++ 47 ∷ v) ≡ false
+slash_clear : (w v : List ℕ) → AllPass is_plain w → AllPass is_plain v → has_comment (w ++ 47 ∷ v) ≡ false
 slash_clear [] [] h k = refl
-slash_clear [] (c ∷ v) h k = rw (no_slash c (and_parts (is_plain c) (list_all is_plain v) k).0) (plain_clear (c ∷ v) k)
-slash_clear (b ∷ w) v h k =
-    let parts = and_parts (is_plain b) (list_all is_plain w) h in
-    clear_more b (w ++ 47 ∷ v) (no_slash b parts.0) (slash_clear w v parts.1 k)
+slash_clear [] (c ∷ v) h k = rw (no_slash c (All-head (λ b. is_plain b ≡ true) c v k)) (plain_clear (c ∷ v) k)
+slash_clear (b ∷ w) v h k = clear_more b (w ++ 47 ∷ v) (All-head (λ b. is_plain b ≡ true) b w h) (slash_clear w v (All-tail (λ b. is_plain b ≡ true) b w h) k)
+
+all_visible : (w : List ℕ) → AllPass is_plain w → AllPass is_visible w
+all_visible w h = All-weaker (λ b. is_plain b ≡ true) (λ b. is_visible b ≡ true) plain_visible w h
 
 some_byte : (w : List ℕ) → 0 < length w → length w == 0 ≡ false
 some_byte w h = ne_eqb (length w) 0 (λ e. absurd (omega (arith, e, h)))
 
 -- ---- numbers
 
-pub decimal_plain : (n : ℕ) → n < 10 ^ 10 → list_all is_plain (decimal n) ≡ true
-decimal_plain n h = all_of is_ascii_digit is_plain (decimal n) digit_plain (decimal_digits n (omega arith))
+pub decimal_plain : (n : ℕ) → n < 10 ^ 10 → AllPass is_plain (decimal n)
+decimal_plain n h = All-weaker (λ b. is_ascii_digit b ≡ true) (λ b. is_plain b ≡ true) digit_plain (decimal n) (AllPass-from_list_all is_ascii_digit (decimal n) (decimal_digits n (omega arith)))
 
-signed_plain : (z : ℤ) → unsigned_abs z < 10 ^ 10 → list_all is_plain (signed_decimal z) ≡ true
+signed_plain : (z : ℤ) → unsigned_abs z < 10 ^ 10 → AllPass is_plain (signed_decimal z)
 signed_plain (pos n) h = decimal_plain n h
-signed_plain (negsuc n) h = decimal_plain (suc n) h
+signed_plain (negsuc n) h = All-cons (λ b. is_plain b ≡ true) 45 (decimal (suc n)) refl (decimal_plain (suc n) h)
 
 length-decimal : (k n : ℕ) → 0 < k → n < 10 ^ k → n < 10 ^ 10 → length (decimal n) ≤ k
 length-decimal k n some h few = length-decimal-le k n some h (omega (arith, few))
@@ -69,8 +68,8 @@ signed_some : (z : ℤ) → unsigned_abs z < 10 ^ 10 → 0 < length (signed_deci
 signed_some (pos n) h = decimal_nonempty n (omega arith)
 signed_some (negsuc n) h = omega arith
 
-pub plain_word : (w : List ℕ) → 0 < length w → list_all is_plain w ≡ true → IsWord w
-plain_word w some h = record { some = some_byte w some; visible = all_of is_plain is_visible w plain_visible h; bare = before_bare w (plain_clear w h) }
+pub plain_word : (w : List ℕ) → 0 < length w → AllPass is_plain w → IsWord w
+plain_word w some h = record { some = some_byte w some; visible = all_visible w h; bare = before_bare w (plain_clear w h) }
 
 pub signed_word : (z : ℤ) → unsigned_abs z < 10 ^ 10 → IsWord (signed_decimal z)
 signed_word z h = plain_word (signed_decimal z) (signed_some z h) (signed_plain z h)
@@ -78,7 +77,7 @@ signed_word z h = plain_word (signed_decimal z) (signed_some z h) (signed_plain 
 pub over_word : (z : ℤ) (d : ℕ) → unsigned_abs z < 10 ^ 10 → d < 10 ^ 10 → IsWord (signed_decimal z ++ 47 ∷ decimal d)
 over_word z d h k = record {
   some = some_byte (signed_decimal z ++ 47 ∷ decimal d) (omega (arith, length-append (signed_decimal z) (47 ∷ decimal d)));
-  visible = list_all-append is_visible (signed_decimal z) (47 ∷ decimal d) ∙ rw (all_of is_plain is_visible (signed_decimal z) plain_visible (signed_plain z h)) (all_of is_plain is_visible (decimal d) plain_visible (decimal_plain d k));
+  visible = All-append (λ b. is_visible b ≡ true) (signed_decimal z) (47 ∷ decimal d) (all_visible (signed_decimal z) (signed_plain z h)) (All-cons (λ b. is_visible b ≡ true) 47 (decimal d) refl (all_visible (decimal d) (decimal_plain d k)));
   bare = before_bare (signed_decimal z ++ 47 ∷ decimal d) (slash_clear (signed_decimal z) (decimal d) (signed_plain z h) (decimal_plain d k));
 }
 

@@ -4,6 +4,8 @@ use Rattle.std.specs.Prelude.{int_le, nat_le, nat_lt, ◌&&◌, if◌then◌else
 use Rattle.std.specs.Fmt.{signed_decimal, decimal, digits}
 use Rattle.std.proofs.lemmas.Bool.{ne_eqb, agree_below_at, and_parts, leb-true, eqb-true}
 use Rattle.std.specs.List.{list_all}
+use Rattle.std.proofs.lemmas.List.Elements.{All-cons}
+use Rattle.std.proofs.lemmas.List.Sums.{AllPass-from_list_all}
 use Rattle.std.proofs.lemmas.Bool.Decides.{nat_tests}
 use Rattle.std.proofs.lemmas.Int.{ints}
 use Rattle.gx_num.specs.declared.vector.V3.{V3}
@@ -46,10 +48,10 @@ use Rattle.gx_canon.specs.Printable.{IsNameWord, IsCopy, HasLowestScales}
 use Rattle.gx_canon.proofs.Back.{Back, Last, single, then_last, word_last, word_then, last_then, pure_back, pure_last, end_last, left_last, row_back, name_back, steps_back, whole_back, vector_back}
 use Rattle.gx_canon.proofs.Figures.{figure_back}
 use Rattle.gx_canon.proofs.Numbers.{whole_back as whole_worth, count_whole}
-use Rattle.gx_canon.proofs.PrintedWords.{IsShortWord, signed_short, plain_word, decimal_plain}
+use Rattle.gx_canon.proofs.PrintedWords.{is_plain, IsShortWord, signed_short, plain_word, decimal_plain}
 
 fixed : (w : List ℕ) → (length w == 0) ≡ false → list_all is_visible w ≡ true → before_comment w ≡ w → nat_le (length w) 255 ≡ true → IsShortWord 255 w
-fixed w some visible bare few = record { word = record { some = some; visible = visible; bare = bare }; short = leb-true (length w) 255 few }
+fixed w some visible bare few = record { word = record { some = some; visible = AllPass-from_list_all is_visible w visible; bare = bare }; short = leb-true (length w) 255 few }
 
 -- a line by its tag
 tagged : (tag : List ℕ) (k : ℕ) (words : List (List ℕ)) (d : Declaration) → IsShortWord 255 tag → number_in tags tag ≡ Some k → Last 255 (after_tag (tag_of k)) words d → Last 255 line (tag ∷ words) d
@@ -242,7 +244,7 @@ pub rotation_named : (k : ℕ) → k < 24 → IsNameWord (rotation_name k)
 unfolding digits
 rotation_named k h = record {
   named = agree_below_at (λ k. is_name_of (rotation_name k)) (λ _. true) 24 k refl h;
-  word = plain_word (rotation_name k) (omega arith) (decimal_plain k (omega (arith, h)));
+  word = plain_word (rotation_name k) (omega arith) (All-cons (λ b. is_plain b ≡ true) 82 (decimal k) refl (decimal_plain k (omega (arith, h))));
 }
 
 pub turn_line : (k : ℕ) → k < 24 → Last 255 line (words_of (Turn (rotation_name k) (matrix_of k))) (Turn (rotation_name k) (matrix_of k))

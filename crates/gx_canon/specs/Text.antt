@@ -1,16 +1,14 @@
 -- Texts as they are printed: words joined by one blank, and each line ended with LF. The form is this project's own.
 use Rattle.std.specs.Prelude.{◌≡◌, ◌≤◌, ℕ, ◌+◌, Bool, true, false, List, [], ◌∷◌, ◌++◌, length, All, ◌==◌, ◌&&◌, nat_le, Option, Some, None, Result, Ok}
-use Rattle.std.specs.List.{list_all}
+use Rattle.std.specs.List.{AllPass, join_with_byte}
 use Rattle.gx_text.specs.declared.lines.LineFault.{LineFault}
 use Rattle.gx_text.specs.declared.lines.TheConstants.{MAX_LINE}
 use Rattle.gx_text.specs.Lines.{before_comment, ended}
 use Rattle.gx_text.specs.TextLine.{TextLine}
 
--- words with a blank between each and the next
+-- words with a blank (32) between each and the next
 abbrev pub joined : List (List ℕ) → List ℕ
-joined [] = []
-joined (w ∷ []) = w
-joined (w ∷ v ∷ ws) = w ++ 32 ∷ joined (v ∷ ws)
+joined words = join_with_byte 32 words
 
 -- lines, each by its words
 abbrev pub text_of : List (List (List ℕ)) → List ℕ
@@ -24,7 +22,7 @@ is_visible b = nat_le 33 b && nat_le b 126
 -- some visible bytes, with no `//` among them
 pub record IsWord (word : List ℕ) : Type 0 where
   pub some : (length word == 0) ≡ false
-  pub visible : list_all is_visible word ≡ true
+  pub visible : AllPass is_visible word
   pub bare : before_comment word ≡ word
 
 -- words that are a line without a fault
