@@ -1,7 +1,7 @@
 -- The words of a printed line are those that were printed.
-use Rattle.std.proofs.Common.{◌≡◌, ℕ, ◌+◌, ◌-◌, Bool, true, false, List, [], ◌∷◌, ◌++◌, length, get_or, All, Option, Some, None, Result, Ok, refl, ap, subst, ◌∙◌, arith, one-add}
-use Rattle.std.specs.Prelude.{position, not, nat_lt, ◌==◌, ◌||◌, slice_index, filter}
-use Rattle.std.specs.List.{AllPass, slice_split, position_or_len}
+use Rattle.std.proofs.Common.{◌≡◌, ℕ, ◌+◌, ◌-◌, Bool, true, false, List, [], ◌∷◌, ◌++◌, length, get_or, All, Option, Some, None, Result, Ok, refl, ap, subst, ◌∙◌, arith}
+use Rattle.std.specs.Prelude.{position, not, nat_lt, ◌==◌, ◌||◌, filter}
+use Rattle.std.specs.List.{AllPass}
 use Rattle.std.specs.Str.Lines.{strip_carriage_return}
 use Rattle.std.proofs.lemmas.Bool.Decides.{nat_tests}
 use Rattle.std.proofs.lemmas.List.Elements.{All-nil, All-cons, All-head, All-tail, All-append, All-weaker}

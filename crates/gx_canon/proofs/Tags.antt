@@ -1,8 +1,8 @@
 -- The lines of each tag, as they are printed, are read back.
 use Rattle.std.proofs.Common.{◌≡◌, ℕ, zero, suc, ◌+◌, ◌-◌, ◌*◌, ◌<◌, ◌≤◌, ℤ, pos, negsuc, unsigned_abs, true, false, List, [], ◌∷◌, ◌++◌, length, Some, None, Ok, refl, codes, arith, length-append}
-use Rattle.std.specs.Prelude.{int_le, nat_le, nat_lt, ◌&&◌, if◌then◌else◌, ◌==◌}
+use Rattle.std.specs.Prelude.{not, int_le, nat_le, nat_lt, ◌&&◌, if◌then◌else◌, ◌==◌}
 use Rattle.std.specs.Fmt.{signed_decimal, decimal, digits}
-use Rattle.std.proofs.lemmas.Bool.{ne_eqb, agree_below_at, and_parts, leb-true, eqb-true}
+use Rattle.std.proofs.lemmas.Bool.{ne_eqb, agree_below_at, and_parts, leb-true, eqb-true, eqb-false, not-true}
 use Rattle.std.specs.List.{list_all}
 use Rattle.std.proofs.lemmas.List.Elements.{All-cons}
 use Rattle.std.proofs.lemmas.List.Sums.{AllPass-from_list_all}
@@ -12,7 +12,6 @@ use Rattle.gx_num.specs.declared.vector.V3.{V3}
 use Rattle.gx_num.specs.declared.vector.TheConstants.{M}
 use Rattle.gx_num.specs.declared.ray.Ray.{Ray}
 use Rattle.gx_num.specs.Vector.{IsWithin}
-use Rattle.gx_text.specs.Lines.{before_comment}
 use Rattle.gx_table.specs.Table.{number_in}
 use Rattle.gx_table.specs.declared.fault.FaultName.TheVariants.{Tag, Axis, Copies, SolidKind as UnknownKind}
 use Rattle.gx_form.specs.Form.{pure}
@@ -41,7 +40,6 @@ use Rattle.gx_decl.specs.Turns.{entry, matrix9}
 use Rattle.gx_decl.specs.Solids as solids
 use Rattle.gx_decl.specs.Solids.{kinds}
 use Rattle.gx_decl.specs.Range.{IsCount, IsRow, IsReplica, IsLinear, IsSquare, IsTraceable}
-use Rattle.gx_canon.specs.Text.{is_visible}
 use Rattle.gx_canon.specs.Words.{vector_words, kind_word, value_words, axis_word, linear_word, square_word, place_words, words_of}
 use Rattle.gx_canon.specs.Canonical.{rotation_name}
 use Rattle.gx_canon.specs.Printable.{IsNameWord, IsCopy, HasLowestScales}
@@ -50,8 +48,12 @@ use Rattle.gx_canon.proofs.Figures.{figure_back}
 use Rattle.gx_canon.proofs.Numbers.{whole_back as whole_worth, count_whole}
 use Rattle.gx_canon.proofs.PrintedWords.{is_plain, IsShortWord, signed_short, plain_word, decimal_plain}
 
-fixed : (w : List ℕ) → (length w == 0) ≡ false → list_all is_visible w ≡ true → before_comment w ≡ w → nat_le (length w) 255 ≡ true → IsShortWord 255 w
-fixed w some visible bare few = record { word = record { some = some; visible = AllPass-from_list_all is_visible w visible; bare = bare }; short = leb-true (length w) 255 few }
+-- a word of this project's tables
+fixed : (w : List ℕ) → (not (length w == 0) && list_all is_plain w && nat_le (length w) 255) ≡ true → IsShortWord 255 w
+fixed w h =
+    let size = and_parts (not (length w == 0) && list_all is_plain w) (nat_le (length w) 255) h in
+    let word = and_parts (not (length w == 0)) (list_all is_plain w) size.0 in
+    record { word = plain_word w (omega (arith, eqb-false (length w) 0 (not-true (length w == 0) word.0))) (AllPass-from_list_all is_plain w word.1); short = leb-true (length w) 255 size.1 }
 
 -- a line by its tag
 tagged : (tag : List ℕ) (k : ℕ) (words : List (List ℕ)) (d : Declaration) → IsShortWord 255 tag → number_in tags tag ≡ Some k → Last 255 (after_tag (tag_of k)) words d → Last 255 line (tag ∷ words) d
@@ -62,7 +64,7 @@ tagged tag k words d short e h =
 
 pub ray_line : (r : Ray) → IsTraceable r → Last 255 line (words_of (Trace r)) (Trace r)
 ray_line r is =
-    tagged (codes ":RAY") 7 _ (Trace r) (fixed (codes ":RAY") refl refl refl refl) refl
+    tagged (codes ":RAY") 7 _ (Trace r) (fixed (codes ":RAY") refl) refl
     (then_last 255 vector _ (vector_words r.o) _ r.o _ (vector_back 255 (omega arith) r.o is.origin)
     (then_last 255 vector _ (vector_words r.d) [] r.d _ (vector_back 255 (omega arith) r.d is.near) (end_last 255 _ _ (rw is.direction (pure_last 255 (Trace r))))))
 
@@ -72,11 +74,11 @@ kind_by : (w : List ℕ) (n : ℕ) → IsShortWord 255 w → number_in kinds w �
 kind_by w n short e = word_then 255 (row_of kinds UnknownKind) (λ n. pure (solids.kind_of n)) w [] n (solids.kind_of n) (row_back 255 kinds UnknownKind w n short e) (pure_back 255 (solids.kind_of n))
 
 kind_back : (k : SolidKind) → Back 255 solids.kind (kind_word k ∷ []) k
-kind_back kind.Cuboid = kind_by (codes "BOX") 0 (fixed (codes "BOX") refl refl refl refl) refl
-kind_back kind.Trd = kind_by (codes "TRD") 1 (fixed (codes "TRD") refl refl refl refl) refl
-kind_back kind.Tet = kind_by (codes "TET") 2 (fixed (codes "TET") refl refl refl refl) refl
-kind_back kind.Extruded = kind_by (codes "EXTRUDED") 3 (fixed (codes "EXTRUDED") refl refl refl refl) refl
-kind_back kind.Tessellated = kind_by (codes "TESSELLATED") 4 (fixed (codes "TESSELLATED") refl refl refl refl) refl
+kind_back kind.Cuboid = kind_by (codes "BOX") 0 (fixed (codes "BOX") refl) refl
+kind_back kind.Trd = kind_by (codes "TRD") 1 (fixed (codes "TRD") refl) refl
+kind_back kind.Tet = kind_by (codes "TET") 2 (fixed (codes "TET") refl) refl
+kind_back kind.Extruded = kind_by (codes "EXTRUDED") 3 (fixed (codes "EXTRUDED") refl) refl
+kind_back kind.Tessellated = kind_by (codes "TESSELLATED") 4 (fixed (codes "TESSELLATED") refl) refl
 
 some_words : (f : Figure) → 1 ≤ length (value_words f)
 some_words (figure.Cuboid hx hy hz) = omega arith
@@ -93,7 +95,7 @@ volume_line name material f hn hm is low =
     word_last 255 solids.kind _ (kind_word (kind_of f)) _ (kind_of f) _ (kind_back (kind_of f))
     (then_last 255 _ _ (value_words f) (material ∷ []) f _ (figure_back f is low)
     (word_last 255 _ _ material [] material _ (name_back material hm) (end_last 255 _ _ (rw is.whole (pure_last 255 _))))) in
-    tagged (codes ":VOLU") 2 _ _ (fixed (codes ":VOLU") refl refl refl refl) refl
+    tagged (codes ":VOLU") 2 _ _ (fixed (codes ":VOLU") refl) refl
     (word_last 255 _ _ name words name _ (name_back name hn) (left_last 255 (λ n. if n == 2 then solids.of_name name else solids.of_kind name) words _ (rw many values)))
 
 -- ---- placements
@@ -122,21 +124,21 @@ reach count step offset h =
     grind (arith, nat_tests, first, last)
 
 axis_back : (axis : ℕ) → axis < 3 → Back 255 placements.axis (axis_word axis ∷ []) axis
-axis_back zero h = row_back 255 axes Axis (codes "X") 0 (fixed (codes "X") refl refl refl refl) refl
-axis_back (suc zero) h = row_back 255 axes Axis (codes "Y") 1 (fixed (codes "Y") refl refl refl refl) refl
-axis_back (suc (suc zero)) h = row_back 255 axes Axis (codes "Z") 2 (fixed (codes "Z") refl refl refl refl) refl
+axis_back zero h = row_back 255 axes Axis (codes "X") 0 (fixed (codes "X") refl) refl
+axis_back (suc zero) h = row_back 255 axes Axis (codes "Y") 1 (fixed (codes "Y") refl) refl
+axis_back (suc (suc zero)) h = row_back 255 axes Axis (codes "Z") 2 (fixed (codes "Z") refl) refl
 axis_back (suc (suc (suc n))) h = absurd (omega (arith, h))
 
 linear_back : (axis : ℕ) → axis < 3 → Back 255 placements.row_kind (linear_word axis ∷ []) axis
-linear_back zero h = row_back 255 row_kinds Axis (codes "LINEAR_X") 0 (fixed (codes "LINEAR_X") refl refl refl refl) refl
-linear_back (suc zero) h = row_back 255 row_kinds Axis (codes "LINEAR_Y") 1 (fixed (codes "LINEAR_Y") refl refl refl refl) refl
-linear_back (suc (suc zero)) h = row_back 255 row_kinds Axis (codes "LINEAR_Z") 2 (fixed (codes "LINEAR_Z") refl refl refl refl) refl
+linear_back zero h = row_back 255 row_kinds Axis (codes "LINEAR_X") 0 (fixed (codes "LINEAR_X") refl) refl
+linear_back (suc zero) h = row_back 255 row_kinds Axis (codes "LINEAR_Y") 1 (fixed (codes "LINEAR_Y") refl) refl
+linear_back (suc (suc zero)) h = row_back 255 row_kinds Axis (codes "LINEAR_Z") 2 (fixed (codes "LINEAR_Z") refl) refl
 linear_back (suc (suc (suc n))) h = absurd (omega (arith, h))
 
 square_back : (plane : ℕ) → plane < 3 → Back 255 placements.row_kind (square_word plane ∷ []) (plane + 3)
-square_back zero h = row_back 255 row_kinds Axis (codes "SQUARE_XY") 3 (fixed (codes "SQUARE_XY") refl refl refl refl) refl
-square_back (suc zero) h = row_back 255 row_kinds Axis (codes "SQUARE_XZ") 4 (fixed (codes "SQUARE_XZ") refl refl refl refl) refl
-square_back (suc (suc zero)) h = row_back 255 row_kinds Axis (codes "SQUARE_YZ") 5 (fixed (codes "SQUARE_YZ") refl refl refl refl) refl
+square_back zero h = row_back 255 row_kinds Axis (codes "SQUARE_XY") 3 (fixed (codes "SQUARE_XY") refl) refl
+square_back (suc zero) h = row_back 255 row_kinds Axis (codes "SQUARE_XZ") 4 (fixed (codes "SQUARE_XZ") refl) refl
+square_back (suc (suc zero)) h = row_back 255 row_kinds Axis (codes "SQUARE_YZ") 5 (fixed (codes "SQUARE_YZ") refl) refl
 square_back (suc (suc (suc n))) h = absurd (omega (arith, h))
 
 second_count_back : (n m : ℕ) → IsCount m → n * m ≤ 4096 → Back 255 (placements.rows_of n) (decimal m ∷ []) m
@@ -147,7 +149,7 @@ second_count_back n m h few =
 module _ (volume mother : List ℕ) (hv : IsNameWord volume) (hm : IsNameWord mother) where
   pub replica_line : (axis count : ℕ) (width : ℤ) → IsReplica axis count width → Last 255 line (place_words volume mother [] (Replica axis count width)) (Place volume mother None (Replica axis count width))
   replica_line axis count width is =
-      tagged (codes ":REPL") 4 _ _ (fixed (codes ":REPL") refl refl refl refl) refl
+      tagged (codes ":REPL") 4 _ _ (fixed (codes ":REPL") refl) refl
       (word_last 255 _ _ volume _ volume _ (name_back volume hv)
       (word_last 255 _ _ mother _ mother _ (name_back mother hm)
       (word_last 255 _ _ (axis_word axis) _ axis _ (axis_back axis is.along)
@@ -158,7 +160,7 @@ module _ (volume mother : List ℕ) (hv : IsNameWord volume) (hm : IsNameWord mo
   module _ (rotation : List ℕ) (hr : IsNameWord rotation) where
     pub single_line : (copy : ℤ) (offset : V3) → IsCopy copy → IsWithin (unsigned_abs M) offset → Last 255 line (place_words volume mother (rotation ∷ []) (Single copy offset)) (Place volume mother (Some rotation) (Single copy offset))
     single_line copy offset hc near =
-        tagged (codes ":PLACE") 3 _ _ (fixed (codes ":PLACE") refl refl refl refl) refl
+        tagged (codes ":PLACE") 3 _ _ (fixed (codes ":PLACE") refl) refl
         (word_last 255 _ _ volume _ volume _ (name_back volume hv)
         (word_last 255 _ _ (signed_decimal copy) _ copy _ (copy_back copy hc)
         (word_last 255 _ _ mother _ mother _ (name_back mother hm)
@@ -168,7 +170,7 @@ module _ (volume mother : List ℕ) (hv : IsNameWord volume) (hm : IsNameWord mo
     -- a kind of rows, and what it wants
     rows_back : (kind : ℕ) (word : List ℕ) (words : List (List ℕ)) (form : Form) → Back 255 placements.row_kind (word ∷ []) kind → Last 255 (placements.rows kind) words form → Last 255 line (codes ":PLACE_PARAM" ∷ volume ∷ decimal 0 ∷ mother ∷ word ∷ rotation ∷ words) (Place volume mother (Some rotation) form)
     rows_back kind word words form hk h =
-        tagged (codes ":PLACE_PARAM") 5 _ _ (fixed (codes ":PLACE_PARAM") refl refl refl refl) refl
+        tagged (codes ":PLACE_PARAM") 5 _ _ (fixed (codes ":PLACE_PARAM") refl) refl
         (word_last 255 _ _ volume _ volume _ (name_back volume hv)
         (word_last 255 _ _ (decimal 0) _ (pos 0) _ (copy_back (pos 0) (record { low = omega (arith, ints); high = omega (arith, ints) }))
         (word_last 255 _ _ mother _ mother _ (name_back mother hm)
@@ -254,7 +256,7 @@ turn_line k h =
     let two = and_parts (is_unit m.x && is_unit m.y) (is_unit m.z) rows.0 in
     let one = and_parts (is_unit m.x) (is_unit m.y) two.0 in
     let matrix = matrix_last m (unit m.x one.0) (unit m.y one.1) (unit m.z two.1) (checked-matrix_of k h) in
-    tagged (codes ":ROTM") 6 _ _ (fixed (codes ":ROTM") refl refl refl refl) refl
+    tagged (codes ":ROTM") 6 _ _ (fixed (codes ":ROTM") refl) refl
     (word_last 255 _ _ (rotation_name k) _ (rotation_name k) _ (name_back (rotation_name k) (rotation_named k h))
     (last_then 255 turns.values (λ x. pure (Turn (rotation_name k) x)) _ m _
     (left_last 255 (λ n. if nat_le n 3 then turns.angles3 else if nat_le n 6 then turns.angles6 else matrix9) _ m matrix) (pure_last 255 _)))

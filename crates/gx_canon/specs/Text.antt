@@ -1,5 +1,5 @@
 -- Texts as they are printed: words joined by one blank, and each line ended with LF. The form is this project's own.
-use Rattle.std.specs.Prelude.{◌≡◌, ◌≤◌, ℕ, ◌+◌, Bool, true, false, List, [], ◌∷◌, ◌++◌, length, All, ◌==◌, ◌&&◌, nat_le, Option, Some, None, Result, Ok}
+use Rattle.std.specs.Prelude.{◌≡◌, ◌≤◌, ℕ, ◌+◌, Bool, false, List, [], ◌∷◌, ◌++◌, length, All, ◌==◌, ◌&&◌, nat_le, Option, Some, None, Result, Ok}
 use Rattle.std.specs.List.{AllPass, join_with_byte}
 use Rattle.gx_text.specs.declared.lines.LineFault.{LineFault}
 use Rattle.gx_text.specs.declared.lines.TheConstants.{MAX_LINE}
