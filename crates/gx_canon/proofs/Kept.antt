@@ -53,7 +53,7 @@ module _ {A : Type 0} where
 pub pure_keeps : {A : Type 0} (a : A) (P : A → Type 0) → P a → Keeps (pure a) P
 pure_keeps a P h = record { kept = λ s b t i e. (subst P (ap (value_or a) e) h, subst IsReading (ap (state_or s) e) i) }
 
-pub refuse_keeps : {A : Type 0} (fault : FaultName) (P : A → Type 0) → Keeps (refuse fault) P
+refuse_keeps : {A : Type 0} (fault : FaultName) (P : A → Type 0) → Keeps (refuse fault) P
 refuse_keeps fault P = record { kept = λ s a t i e. absurd cc }
 
 pub choice_keeps : {A : Type 0} (c : Bool) (p q : Reader A) (P : A → Type 0) → Keeps p P → Keeps q P → Keeps (if c then p else q) P

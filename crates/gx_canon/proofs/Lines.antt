@@ -96,14 +96,14 @@ some_line number [] some = absurd cc
 some_line number (w ∷ ws) some = refl
 
 -- a printed line, read
-pub ended_joined : (number : ℕ) (ws : List (List ℕ)) → IsLine ws → ended number (joined ws) ≡ Ok (Some (record { number = number; words = ws }))
+ended_joined : (number : ℕ) (ws : List (List ℕ)) → IsLine ws → ended number (joined ws) ≡ Ok (Some (record { number = number; words = ws }))
 ended_joined number ws h =
     ap (ended_with number (joined ws)) (fault_joined number ws h)
     ∙ ap (λ (words : List (List ℕ)). Ok (line_of number words)) (ap words_in (visible_joined ws h.visible) ∙ parts_joined ws h.visible)
     ∙ ap Ok (some_line number ws h.some)
 
 -- a printed line is cut off
-pub cut_line : (ws : List (List ℕ)) (rest : List ℕ) → All IsWord ws → cut (joined ws ++ 10 ∷ rest) ≡ joined ws ∷ cut rest
+cut_line : (ws : List (List ℕ)) (rest : List ℕ) → All IsWord ws → cut (joined ws ++ 10 ∷ rest) ≡ joined ws ∷ cut rest
 cut_line ws rest h = slice_split_at (λ b. b == 10) (joined ws) 10 rest (All-weaker (λ b. in_line b ≡ true) (λ b. b == 10 ≡ false) not_feed (joined ws) (joined_in ws h)) refl
 
 pub lines_back : LinesBack
