@@ -132,7 +132,7 @@ between_is : (low high : ℤ) (r : Option ℤ) (n : ℤ) → convert.between low
 between_is low high None n e = absurd cc
 between_is low high (Some m) n e = tested (int_le low m && int_le m high) (λ n. int_le low n && int_le n high) m n Range refl e
 
-counted : (marked : Bool) (low high : ℤ) (r : Option ℤ) (n : ℤ) → (if marked then Err MarkedCount else convert.between low high r) ≡ Ok n → (int_le low n && int_le n high) ≡ true
+pub counted : (marked : Bool) (low high : ℤ) (r : Option ℤ) (n : ℤ) → (if marked then Err MarkedCount else convert.between low high r) ≡ Ok n → (int_le low n && int_le n high) ≡ true
 counted true low high r n e = absurd cc
 counted false low high r n e = between_is low high r n e
 

@@ -73,14 +73,14 @@ volume_keeps =
 
 -- ---- the other tags, of which less is asked
 
-anything : {A : Type 0} (p : Reader A) → Gives p Anything
+pub anything : {A : Type 0} (p : Reader A) → Gives p Anything
 anything p = record { given = λ s a t e. tt }
 
 -- what comes before doesn't matter
-after : {A B : Type 0} (p : Reader A) (f : A → Reader B) (P : B → Type 0) → ((a : A) → Gives (f a) P) → Gives (p >>= f) P
+pub after : {A B : Type 0} (p : Reader A) (f : A → Reader B) (P : B → Type 0) → ((a : A) → Gives (f a) P) → Gives (p >>= f) P
 after p f P h = then_gives p f Anything P (anything p) (λ a _. h a)
 
-choice_gives : {A : Type 0} (c : Bool) (p q : Reader A) (P : A → Type 0) → Gives p P → Gives q P → Gives (if c then p else q) P
+pub choice_gives : {A : Type 0} (c : Bool) (p q : Reader A) (P : A → Type 0) → Gives p P → Gives q P → Gives (if c then p else q) P
 choice_gives true p q P h k = h
 choice_gives false p q P h k = k
 
@@ -179,7 +179,7 @@ line_declares : Declares line IsPrintable
 line_declares =
     then_declares tag after_tag Anything IsPrintable (then_keeps _ _ Anything Anything (row_keeps tags TagName) (λ n _. pure_keeps (tag_of n) Anything tt)) (λ t _. after_tag_declares t)
 
-answered : (o : Outcome Words Declaration) (d : Declaration) → answer_of o ≡ Ok d → (t : Words) × (o ≡ Ok (d, t))
+pub answered : (o : Outcome Words Declaration) (d : Declaration) → answer_of o ≡ Ok d → (t : Words) × (o ≡ Ok (d, t))
 answered (Ok p) d e = (p.1, let same : p.0 ≡ d = cc in ap (λ (x : Declaration). Ok (x, p.1)) same)
 answered (Err fault) d e = absurd cc
 

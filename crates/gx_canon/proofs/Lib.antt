@@ -11,6 +11,7 @@ pub mod Lines
 pub mod Lowest
 pub mod Numbers
 pub mod PrintedWords
+pub mod Ranged
 pub mod Rotations
 pub mod Scales
 pub mod Tags

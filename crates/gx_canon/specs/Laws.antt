@@ -12,7 +12,7 @@ use Rattle.gx_tree.specs.Fault.{IsTree}
 use Rattle.gx_decl.specs.declared.declaration.Declaration.{Declaration}
 use Rattle.gx_decl.specs.declared.declaration.Declaration.TheVariants.{Turn}
 use Rattle.gx_decl.specs.Decl.{declared_of}
-use Rattle.gx_decl.specs.Range.{IsTraceable}
+use Rattle.gx_decl.specs.Range.{IsTraceable, IsInRange}
 use Rattle.gx_canon.specs.Text.{text_of, IsWord, IsLine, read_from, lines_from}
 use Rattle.gx_canon.specs.Words.{words_of}
 use Rattle.gx_canon.specs.Canonical.{rotation_name, rotation_number, turns, declarations_of, canonical, millimetre}
@@ -54,3 +54,7 @@ WordsAreWords = (number : ℕ) (line : List ℕ) (read : TextLine) → ended num
 -- what is read of words, with parameters in lowest terms, is printable
 abbrev pub Kept : Type 0
 Kept = (params : List Param) (grid : Fraction) (words : List (List ℕ)) (d : Declaration) → AreLowest params → All IsWord words → declared_of params grid words ≡ Ok d → IsPrintable d
+
+-- what is read is in its range
+abbrev pub Ranged : Type 0
+Ranged = (params : List Param) (grid : Fraction) (words : List (List ℕ)) (d : Declaration) → declared_of params grid words ≡ Ok d → IsInRange d

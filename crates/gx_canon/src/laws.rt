@@ -1,5 +1,5 @@
 //! Laws over the definitions, each the contract of a function that does nothing.
-ghost use Rattle.gx_canon.specs.Laws.{LinesBack, DeclarationsBack, TextBack, RotationsBack, WordsAreWords, Kept};
+ghost use Rattle.gx_canon.specs.Laws.{LinesBack, DeclarationsBack, TextBack, RotationsBack, WordsAreWords, Kept, Ranged};
 
 /// The lines of a printed text are those that were printed.
 pub fn lines_back()
@@ -29,4 +29,9 @@ pub fn words_are_words()
 /// What a line declares is printable.
 pub fn kept()
     ensures { Kept }
+{}
+
+/// What a line declares is in its range.
+pub fn ranged()
+    ensures { Ranged }
 {}
