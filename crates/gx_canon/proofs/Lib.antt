@@ -15,3 +15,4 @@ pub mod Ranged
 pub mod Rotations
 pub mod Scales
 pub mod Tags
+pub mod Turned

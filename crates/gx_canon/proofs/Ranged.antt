@@ -40,9 +40,11 @@ use Rattle.gx_decl.specs.Solids.{of_words}
 use Rattle.gx_decl.specs.Placements as placements
 use Rattle.gx_decl.specs.Placements.{does_reach, axes, row_kinds}
 use Rattle.gx_decl.specs.Turns as turns
-use Rattle.gx_decl.specs.Range.{IsName, IsNear, IsCount, IsGiven, IsRow, IsForm, IsInRange}
+use Rattle.gx_decl.specs.Range.{IsName, IsNear, IsCount, IsGiven, IsRow, IsForm}
 use Rattle.gx_decl.proofs.Values.{IfOk-figure}
-use Rattle.gx_canon.specs.Laws.{Ranged}
+use Rattle.gx_tree.specs.Hierarchy.{IsRotation}
+use Rattle.gx_canon.proofs.Turned.{values_gives}
+use Rattle.gx_canon.specs.Laws.{Ranged, IsRanged}
 use Rattle.gx_canon.proofs.Kept.{Anything, counted}
 use Rattle.gx_canon.proofs.KeptLines.{anything, after, choice_gives, answered}
 
@@ -137,31 +139,31 @@ made_by : (f : Figure) (o : Option FaultName) → whole_fault f ≡ o → IsFigu
 made_by f None none is = pure_gives f IsSolid (record { values = is; whole = none })
 made_by f (Some fault) none is = record { given = λ s a t e. absurd cc }
 
-solid_gives : Gives solids.solid IsInRange
+solid_gives : Gives solids.solid IsRanged
 solid_gives =
-    then_gives words.name _ IsName IsInRange name_gives (λ n hn.
-    after solids.kind _ IsInRange (λ k.
-    then_gives (spec.figure_in of_words k) _ IsFigure IsInRange (figure_gives k) (λ f hf.
-    after words.end _ IsInRange (λ _.
-    then_gives (solids.made f) _ IsSolid IsInRange (made_by f (whole_fault f) refl hf) (λ s hs. pure_gives (declaration.Solid n s) IsInRange (hn, hs))))))
+    then_gives words.name _ IsName IsRanged name_gives (λ n hn.
+    after solids.kind _ IsRanged (λ k.
+    then_gives (spec.figure_in of_words k) _ IsFigure IsRanged (figure_gives k) (λ f hf.
+    after words.end _ IsRanged (λ _.
+    then_gives (solids.made f) _ IsSolid IsRanged (made_by f (whole_fault f) refl hf) (λ s hs. pure_gives (declaration.Solid n s) IsRanged (hn, hs))))))
 
-of_name_gives : (n : List ℕ) → IsName n → Gives (solids.of_name n) IsInRange
+of_name_gives : (n : List ℕ) → IsName n → Gives (solids.of_name n) IsRanged
 of_name_gives n hn =
-    then_gives words.name _ IsName IsInRange name_gives (λ s hs.
-    then_gives words.name _ IsName IsInRange name_gives (λ m hm. after words.end _ IsInRange (λ _. pure_gives (declaration.Named n s m) IsInRange (hn, hs, hm))))
+    then_gives words.name _ IsName IsRanged name_gives (λ s hs.
+    then_gives words.name _ IsName IsRanged name_gives (λ m hm. after words.end _ IsRanged (λ _. pure_gives (declaration.Named n s m) IsRanged (hn, hs, hm))))
 
-of_kind_gives : (n : List ℕ) → IsName n → Gives (solids.of_kind n) IsInRange
+of_kind_gives : (n : List ℕ) → IsName n → Gives (solids.of_kind n) IsRanged
 of_kind_gives n hn =
-    after solids.kind _ IsInRange (λ k.
-    then_gives (spec.figure_in of_words k) _ IsFigure IsInRange (figure_gives k) (λ f hf.
-    then_gives words.name _ IsName IsInRange name_gives (λ m hm.
-    after words.end _ IsInRange (λ _.
-    then_gives (solids.made f) _ IsSolid IsInRange (made_by f (whole_fault f) refl hf) (λ s hs. pure_gives (declaration.Volume n s m) IsInRange (hn, hs, hm))))))
+    after solids.kind _ IsRanged (λ k.
+    then_gives (spec.figure_in of_words k) _ IsFigure IsRanged (figure_gives k) (λ f hf.
+    then_gives words.name _ IsName IsRanged name_gives (λ m hm.
+    after words.end _ IsRanged (λ _.
+    then_gives (solids.made f) _ IsSolid IsRanged (made_by f (whole_fault f) refl hf) (λ s hs. pure_gives (declaration.Volume n s m) IsRanged (hn, hs, hm))))))
 
-volume_gives : Gives solids.volume IsInRange
+volume_gives : Gives solids.volume IsRanged
 volume_gives =
-    then_gives words.name _ IsName IsInRange name_gives (λ n hn.
-    after words.left _ IsInRange (λ count. choice_gives (count == 2) (solids.of_name n) (solids.of_kind n) IsInRange (of_name_gives n hn) (of_kind_gives n hn)))
+    then_gives words.name _ IsName IsRanged name_gives (λ n hn.
+    after words.left _ IsRanged (λ count. choice_gives (count == 2) (solids.of_name n) (solids.of_kind n) IsRanged (of_name_gives n hn) (of_kind_gives n hn)))
 
 -- ---- placements
 
@@ -171,27 +173,27 @@ count_gives =
     let both = and_parts (int_le (pos 1) n) (int_le n (pos 4096)) h in
     pure_gives (unsigned_abs n) IsCount (record { some = omega (arith, ints, both.0, both.1); few = omega (arith, ints, both.0, both.1) }))
 
-repl_gives : Gives placements.repl IsInRange
+repl_gives : Gives placements.repl IsRanged
 repl_gives =
-    then_gives words.name _ IsName IsInRange name_gives (λ v hv.
-    then_gives words.name _ IsName IsInRange name_gives (λ m hm.
-    then_gives placements.axis _ (λ k. k < 3) IsInRange (row_gives 3 axes Axis refl) (λ axis along.
-    then_gives placements.copies _ IsCount IsInRange count_gives (λ count is.
-    then_gives words.steps _ IsNear IsInRange steps_gives (λ width near.
-    after placements.offset_if_any _ IsInRange (λ _.
-    after words.end _ IsInRange (λ _.
-    pure_gives (declaration.Place v m None (form.Replica axis count width)) IsInRange
+    then_gives words.name _ IsName IsRanged name_gives (λ v hv.
+    then_gives words.name _ IsName IsRanged name_gives (λ m hm.
+    then_gives placements.axis _ (λ k. k < 3) IsRanged (row_gives 3 axes Axis refl) (λ axis along.
+    then_gives placements.copies _ IsCount IsRanged count_gives (λ count is.
+    then_gives words.steps _ IsNear IsRanged steps_gives (λ width near.
+    after placements.offset_if_any _ IsRanged (λ _.
+    after words.end _ IsRanged (λ _.
+    pure_gives (declaration.Place v m None (form.Replica axis count width)) IsRanged
     (record { volume_named = hv; mother_named = hm; rotation_named = tt; formed = record { along = along; counted = is; near_width = near } }))))))))
 
-single_gives : Gives placements.place IsInRange
+single_gives : Gives placements.place IsRanged
 single_gives =
-    then_gives words.name _ IsName IsInRange name_gives (λ v hv.
-    after placements.copy_number _ IsInRange (λ copy.
-    then_gives words.name _ IsName IsInRange name_gives (λ m hm.
-    then_gives words.name _ IsName IsInRange name_gives (λ rotation hr.
-    then_gives lines.vector _ (IsWithin (unsigned_abs M)) IsInRange vector_gives (λ offset near.
-    after words.end _ IsInRange (λ _.
-    pure_gives (declaration.Place v m (Some rotation) (form.Single copy offset)) IsInRange (record { volume_named = hv; mother_named = hm; rotation_named = hr; formed = near })))))))
+    then_gives words.name _ IsName IsRanged name_gives (λ v hv.
+    after placements.copy_number _ IsRanged (λ copy.
+    then_gives words.name _ IsName IsRanged name_gives (λ m hm.
+    then_gives words.name _ IsName IsRanged name_gives (λ rotation hr.
+    then_gives lines.vector _ (IsWithin (unsigned_abs M)) IsRanged vector_gives (λ offset near.
+    after words.end _ IsRanged (λ _.
+    pure_gives (declaration.Place v m (Some rotation) (form.Single copy offset)) IsRanged (record { volume_named = hv; mother_named = hm; rotation_named = hr; formed = near })))))))
 
 -- between the first and the last of a row are the others
 between : (offset step : ℤ) (i last : ℕ) → i ≤ last → IsNear (place offset step 0) → IsNear (place offset step last) → IsNear (place offset step i)
@@ -252,35 +254,35 @@ rows_gives kind less = by (nat_lt kind 3) refl
     by true e = linear_gives kind (ltb-true kind 3 e)
     by false e = square_gives (kind - 3) (omega (arith, less, ltb-false kind 3 e))
 
-place_param_gives : Gives placements.place_param IsInRange
+place_param_gives : Gives placements.place_param IsRanged
 place_param_gives =
-    then_gives words.name _ IsName IsInRange name_gives (λ v hv.
-    after placements.copy_number _ IsInRange (λ copy.
-    then_gives words.name _ IsName IsInRange name_gives (λ m hm.
-    then_gives placements.row_kind _ (λ k. k < 6) IsInRange (row_gives 6 row_kinds Axis refl) (λ kind less.
-    then_gives words.name _ IsName IsInRange name_gives (λ rotation hr.
-    then_gives (placements.rows kind) _ IsForm IsInRange (rows_gives kind less) (λ f hf.
-    pure_gives (declaration.Place v m (Some rotation) f) IsInRange (record { volume_named = hv; mother_named = hm; rotation_named = hr; formed = hf })))))))
+    then_gives words.name _ IsName IsRanged name_gives (λ v hv.
+    after placements.copy_number _ IsRanged (λ copy.
+    then_gives words.name _ IsName IsRanged name_gives (λ m hm.
+    then_gives placements.row_kind _ (λ k. k < 6) IsRanged (row_gives 6 row_kinds Axis refl) (λ kind less.
+    then_gives words.name _ IsName IsRanged name_gives (λ rotation hr.
+    then_gives (placements.rows kind) _ IsForm IsRanged (rows_gives kind less) (λ f hf.
+    pure_gives (declaration.Place v m (Some rotation) f) IsRanged (record { volume_named = hv; mother_named = hm; rotation_named = hr; formed = hf })))))))
 
 -- ---- any line
 
-param_gives : Gives lines.param IsInRange
+param_gives : Gives lines.param IsRanged
 param_gives =
-    then_gives words.param_name _ (λ w. words.is_param_name w ≡ true) IsInRange
+    then_gives words.param_name _ (λ w. words.is_param_name w ≡ true) IsRanged
     (after words.word _ (λ w. words.is_param_name w ≡ true) (λ w. passed (words.is_param_name w) w _ (λ w. words.is_param_name w ≡ true) (λ e. e) (refused _)))
-    (λ n hn. after words.expression _ IsInRange (λ v. after words.end _ IsInRange (λ _. pure_gives (declaration.Param n v) IsInRange hn)))
+    (λ n hn. after words.expression _ IsRanged (λ v. after words.end _ IsRanged (λ _. pure_gives (declaration.Param n v) IsRanged hn)))
 
-rotm_gives : Gives turns.rotm IsInRange
-rotm_gives = then_gives words.name _ IsName IsInRange name_gives (λ n hn. after turns.values _ IsInRange (λ m. pure_gives (declaration.Turn n m) IsInRange hn))
+rotm_gives : Gives turns.rotm IsRanged
+rotm_gives = then_gives words.name _ IsName IsRanged name_gives (λ n hn. then_gives turns.values _ IsRotation IsRanged values_gives (λ m hm. pure_gives (declaration.Turn n m) IsRanged (hn, hm)))
 
-ray_gives : Gives lines.ray IsInRange
+ray_gives : Gives lines.ray IsRanged
 ray_gives =
-    then_gives lines.vector _ (IsWithin (unsigned_abs M)) IsInRange vector_gives (λ o ho.
-    then_gives lines.vector _ (IsWithin (unsigned_abs M)) IsInRange vector_gives (λ d hd.
-    after words.end _ IsInRange (λ _.
-    unless (lines.is_zero d) 5 Direction _ IsInRange (λ e. pure_gives (declaration.Trace (record { o = o; d = d })) IsInRange (record { origin = ho; near = hd; direction = e })))))
+    then_gives lines.vector _ (IsWithin (unsigned_abs M)) IsRanged vector_gives (λ o ho.
+    then_gives lines.vector _ (IsWithin (unsigned_abs M)) IsRanged vector_gives (λ d hd.
+    after words.end _ IsRanged (λ _.
+    unless (lines.is_zero d) 5 Direction _ IsRanged (λ e. pure_gives (declaration.Trace (record { o = o; d = d })) IsRanged (record { origin = ho; near = hd; direction = e })))))
 
-after_tag_gives : (t : Tag) → Gives (after_tag t) IsInRange
+after_tag_gives : (t : Tag) → Gives (after_tag t) IsRanged
 after_tag_gives of_tag.Param = param_gives
 after_tag_gives of_tag.Solid = solid_gives
 after_tag_gives of_tag.Volume = volume_gives
@@ -289,10 +291,10 @@ after_tag_gives of_tag.Replica = repl_gives
 after_tag_gives of_tag.Row = place_param_gives
 after_tag_gives of_tag.Turn = rotm_gives
 after_tag_gives of_tag.Ray = ray_gives
-after_tag_gives of_tag.Passed = pure_gives declaration.Passed IsInRange tt
+after_tag_gives of_tag.Passed = pure_gives declaration.Passed IsRanged tt
 
 pub ranged : Ranged
 ranged params grid words d e =
     let start = unread params grid words in
     let read = answered (line start) d e in
-    (after tag after_tag IsInRange after_tag_gives).given start d read.0 read.1
+    (after tag after_tag IsRanged after_tag_gives).given start d read.0 read.1
