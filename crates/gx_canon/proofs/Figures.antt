@@ -30,6 +30,7 @@ use Rattle.gx_decl.specs.Solids.{of_words}
 use Rattle.gx_canon.specs.Words.{vector_words, corner_words, section_words, scale_word, points_words, facet_words, value_words}
 use Rattle.gx_canon.specs.Printable.{IsLowestScale, HasLowestScales}
 use Rattle.gx_canon.proofs.Back.{Back, IsNear, then_back, word_then, map_back, pure_back, longer_back, collect_back, steps_back, whole_back}
+use Rattle.gx_canon.proofs.Forms.{anything, after}
 use Rattle.gx_canon.proofs.FewFacets.{few_facets}
 use Rattle.gx_canon.proofs.Scales.{small_section, scale_back}
 
@@ -122,9 +123,6 @@ abbrev AreMoved : Figure → Type 0
 AreMoved (figure.Extruded corners s t) = IsMoved s × IsMoved t
 AreMoved figure = Unit {0}
 
-anything : {S A : Type 0} (p : Form S A) → Gives p (λ _. Unit {0})
-anything p = record { given = λ s a t e. tt }
-
 kept_gives : (c : Bool) (n : ℤ) (q : Form Numbers ℤ) (P : ℤ → Type 0) → (c ≡ true → P n) → Gives q (λ _. ⊥) → Gives (if c then pure n else q) P
 kept_gives true n q P h fails = pure_gives n P (h refl)
 kept_gives false n q P h fails = record { given = λ s b t e. absurd (fails.given s b t e) }
@@ -141,22 +139,22 @@ section_gives : (corners : List V3) (z : ℤ) → Gives (spec.section_at numbers
 section_gives corners z =
     then_gives _ _ IsNear IsMoved length_gives (λ x hx.
     then_gives _ _ IsNear IsMoved length_gives (λ y hy.
-    then_gives _ _ _ IsMoved (anything numbers.scale) (λ k _. from_gives corners (record { z = z; x = x; y = y; scale = k }) (record { x = hx; y = hy }))))
+    after numbers.scale _ IsMoved (λ k. from_gives corners (record { z = z; x = x; y = y; scale = k }) (record { x = hx; y = hy }))))
 
 sections_gives : (corners : List V3) → Gives (spec.sections numbers corners) (λ e. IsMoved e.0 × IsMoved e.1)
 sections_gives corners =
-    then_gives _ _ _ _ (anything numbers.length) (λ z1 _.
+    after numbers.length _ _ (λ z1.
     then_gives _ _ IsMoved _ (section_gives corners z1) (λ s hs.
-    then_gives _ _ _ _ (anything (spec.second_height numbers z1)) (λ z2 _. then_gives _ _ IsMoved _ (section_gives corners z2) (λ t ht. pure_gives (s, t) _ (hs, ht)))))
+    after (spec.second_height numbers z1) _ _ (λ z2. then_gives _ _ IsMoved _ (section_gives corners z2) (λ t ht. pure_gives (s, t) _ (hs, ht)))))
 
 extruded_gives : Gives (all_of kind.Extruded) AreMoved
 extruded_gives =
     then_gives _ _ AreMoved AreMoved
-    (then_gives _ _ _ AreMoved (anything (spec.corner_count numbers)) (λ n _.
-    then_gives _ _ _ AreMoved (anything (collect n (spec.corner_in numbers))) (λ corners _.
-    then_gives _ _ _ AreMoved (anything (numbers.whole (pos 2) (pos 2) Sections)) (λ two _.
+    (after (spec.corner_count numbers) _ AreMoved (λ n.
+    after (collect n (spec.corner_in numbers)) _ AreMoved (λ corners.
+    after (numbers.whole (pos 2) (pos 2) Sections) _ AreMoved (λ two.
     then_gives _ _ _ AreMoved (sections_gives corners) (λ ends h. pure_gives (figure.Extruded corners ends.0 ends.1) AreMoved h)))))
-    (λ f h. then_gives end _ _ AreMoved (anything end) (λ _ _. pure_gives f AreMoved h))
+    (λ f h. after end _ AreMoved (λ _. pure_gives f AreMoved h))
 
 moved : (corners : List V3) (s t : Section) → IsFigure (figure.Extruded corners s t) → IsMoved s × IsMoved t
 moved corners s t is = extruded_gives.given (start is.values) (figure.Extruded corners s t) is.left is.given

@@ -27,6 +27,7 @@ use Rattle.gx_decl.specs.Solids.{of_words, is_scale, as_scale}
 use Rattle.gx_decl.specs.Solids as solids
 use Rattle.gx_canon.specs.Text.{IsWord}
 use Rattle.gx_canon.specs.Printable.{IsLowestFraction, AreLowest, IsLowestScale, HasLowestScales}
+use Rattle.gx_canon.proofs.Forms.{Anything}
 use Rattle.gx_canon.proofs.Lowest.{value_lowest}
 
 -- a line of words, whose parameters are in lowest terms
@@ -37,9 +38,6 @@ pub record IsReading (s : Words) : Type 0 where
 -- what the form reads has P
 pub record Keeps {A : Type 0} (p : Reader A) (P : A → Type 0) : Type 0 where
   pub kept : (s : Words) (a : A) (t : Words) → IsReading s → p s ≡ Ok (a, t) → P a × IsReading t
-
-abbrev pub Anything : {A : Type 0} → A → Type 0
-Anything a = Unit {0}
 
 module _ {A : Type 0} where
   abbrev value_or : A → Outcome Words A → A

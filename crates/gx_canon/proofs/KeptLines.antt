@@ -1,5 +1,5 @@
 -- What the line of each tag declares is printable.
-use Rattle.std.proofs.Common.{◌≡◌, ℕ, pos, negsuc, Bool, true, false, List, Option, Some, None, Ok, Err, refl, ap, arith, if◌then◌else◌}
+use Rattle.std.proofs.Common.{◌≡◌, ℕ, pos, negsuc, List, Option, Some, None, Ok, Err, refl, ap, arith, if◌then◌else◌}
 use Rattle.std.specs.Prelude.{int_le, nat_lt, ◌==◌, ◌-◌}
 use Rattle.std.proofs.lemmas.Bool.{and_parts}
 use Rattle.std.proofs.lemmas.Int.{ints}
@@ -26,7 +26,8 @@ use Rattle.gx_decl.specs.Turns as turns
 use Rattle.gx_canon.specs.Text.{IsWord}
 use Rattle.gx_canon.specs.Printable.{IsLowestFraction, HasLowestScales, IsCopy, HasCopy, IsPrintable}
 use Rattle.gx_canon.specs.Laws.{Kept}
-use Rattle.gx_canon.proofs.Kept.{IsReading, Keeps, Anything, then_keeps, pure_keeps, choice_keeps, name_keeps, param_name_keeps, row_keeps, end_keeps, left_keeps, expression_keeps, whole_keeps, figure_keeps}
+use Rattle.gx_canon.proofs.Forms.{Anything, after, choice_gives}
+use Rattle.gx_canon.proofs.Kept.{IsReading, Keeps, then_keeps, pure_keeps, choice_keeps, name_keeps, param_name_keeps, row_keeps, end_keeps, left_keeps, expression_keeps, whole_keeps, figure_keeps}
 
 -- ---- parameters, solids and volumes
 
@@ -72,17 +73,6 @@ volume_keeps =
     (λ count _. choice_keeps (count == 2) (solids.of_name n) (solids.of_kind n) IsPrintable (of_name_keeps n h) (of_kind_keeps n h)))
 
 -- ---- the other tags, of which less is asked
-
-pub anything : {A : Type 0} (p : Reader A) → Gives p Anything
-anything p = record { given = λ s a t e. tt }
-
--- what comes before doesn't matter
-pub after : {A B : Type 0} (p : Reader A) (f : A → Reader B) (P : B → Type 0) → ((a : A) → Gives (f a) P) → Gives (p >>= f) P
-after p f P h = then_gives p f Anything P (anything p) (λ a _. h a)
-
-pub choice_gives : {A : Type 0} (c : Bool) (p q : Reader A) (P : A → Type 0) → Gives p P → Gives q P → Gives (if c then p else q) P
-choice_gives true p q P h k = h
-choice_gives false p q P h k = k
 
 repl_gives : Gives placements.repl IsPrintable
 repl_gives =

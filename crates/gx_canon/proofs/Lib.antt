@@ -3,6 +3,7 @@ pub mod Bytes
 pub mod Declarations
 pub mod FewFacets
 pub mod Figures
+pub mod Forms
 pub mod Kept
 pub mod KeptLines
 mod KnownTexts

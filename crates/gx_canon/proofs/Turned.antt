@@ -1,12 +1,11 @@
 -- The values of a rotation give one of the 24.
-use Rattle.std.proofs.Common.{◌≡◌, ℕ, zero, suc, ◌+◌, ◌<◌, ◌≤◌, ◌%◌, pos, negsuc, unsigned_abs, Bool, true, false, List, [], ◌∷◌, Option, Some, None, Result, Ok, Err, refl, sym, ap, ◌∙◌, subst, arith, if◌then◌else◌}
+use Rattle.std.proofs.Common.{◌≡◌, ℕ, zero, suc, ◌+◌, ◌<◌, ◌%◌, negsuc, unsigned_abs, Bool, true, false, List, [], ◌∷◌, Option, Some, None, Result, Ok, Err, refl, sym, ◌∙◌, subst, arith, if◌then◌else◌}
 use Rattle.std.specs.Prelude.{nat_le, not, ◌&&◌, ◌||◌}
 use Rattle.std.specs.Ordering.{int_eq}
 use Rattle.std.proofs.lemmas.Bool.{and_parts, eqb-true}
 use Rattle.std.proofs.lemmas.Int.{ints}
 use Rattle.gx_num.specs.declared.vector.V3.{V3}
 use Rattle.gx_num.specs.Vector.{is_same}
-use Rattle.gx_form.specs.Form.{◌>>=◌, ◌>>◌, pure}
 use Rattle.gx_form.specs.First as first
 use Rattle.gx_convex.proofs.Distinct.{Decides-is_same}
 use Rattle.gx_rotation.specs.declared.fault.RotationFault.{RotationFault}
@@ -16,12 +15,12 @@ use Rattle.gx_rotation.specs.Rotation.{matrix_of, number_of, signed_rows, unit_v
 use Rattle.gx_rotation.specs.Given.{checked, turn_x, turn_y, turn_z, direction_at, row_at, by_angles3, by_angles6, by_matrix9}
 use Rattle.gx_rotation.proofs.Algebra.{vector_is}
 use Rattle.gx_rotation.proofs.Tables.{product_at, product_at-below, matrix_of-product_at}
-use Rattle.gx_shapes.proofs.Given.{Gives, then_gives, pure_gives}
+use Rattle.gx_shapes.proofs.Given.{Gives, pure_gives}
 use Rattle.gx_tree.specs.Hierarchy.{IsRotation}
 use Rattle.gx_decl.specs.Words as words
 use Rattle.gx_decl.specs.Words.{Words, Reader}
 use Rattle.gx_decl.specs.Turns as turns
-use Rattle.gx_canon.proofs.KeptLines.{after, choice_gives}
+use Rattle.gx_canon.proofs.Forms.{after, choice_gives}
 use Rattle.gx_canon.proofs.Rotations.{number_of-below}
 
 -- ---- a matrix that takes axes to axes and is no mirror
