@@ -44,7 +44,8 @@ use Rattle.gx_decl.specs.Range.{IsName, IsNear, IsCount, IsGiven, IsRow, IsForm}
 use Rattle.gx_decl.proofs.Values.{IfOk-figure}
 use Rattle.gx_tree.specs.Hierarchy.{IsRotation}
 use Rattle.gx_canon.proofs.Turned.{values_gives}
-use Rattle.gx_canon.specs.Laws.{Ranged, IsRanged}
+use Rattle.gx_canon.specs.Printable.{IsRanged}
+use Rattle.gx_canon.specs.Laws.{Ranged}
 use Rattle.gx_canon.proofs.Forms.{Anything, anything, after, choice_gives}
 use Rattle.gx_canon.proofs.Kept.{counted}
 use Rattle.gx_canon.proofs.KeptLines.{answered}

@@ -7,16 +7,16 @@ use Rattle.gx_text.specs.Lines.{cut, ended}
 use Rattle.gx_expr.specs.Param.{Param}
 use Rattle.gx_tree.specs.declared.placement.Placement.{Placement}
 use Rattle.gx_tree.specs.Volume.{Volume, rotation_of}
-use Rattle.gx_tree.specs.Hierarchy.{Hierarchy, IsRotation}
+use Rattle.gx_tree.specs.Hierarchy.{Hierarchy}
 use Rattle.gx_tree.specs.Fault.{IsTree}
 use Rattle.gx_decl.specs.declared.declaration.Declaration.{Declaration}
 use Rattle.gx_decl.specs.declared.declaration.Declaration.TheVariants.{Turn}
 use Rattle.gx_decl.specs.Decl.{declared_of}
-use Rattle.gx_decl.specs.Range.{IsName, IsTraceable, IsInRange}
+use Rattle.gx_decl.specs.Range.{IsTraceable}
 use Rattle.gx_canon.specs.Text.{text_of, IsWord, IsLine, read_from, lines_from}
 use Rattle.gx_canon.specs.Words.{words_of}
 use Rattle.gx_canon.specs.Canonical.{rotation_name, rotation_number, turns, declarations_of, canonical, millimetre}
-use Rattle.gx_canon.specs.Printable.{AreLowest, IsPrintable, IsPrintableVolume}
+use Rattle.gx_canon.specs.Printable.{AreLowest, IsRanged, IsPrintable, IsPrintableVolume}
 
 -- the lines of a printed text, read, are those that were printed
 abbrev pub LinesBack : Type 0
@@ -54,11 +54,6 @@ WordsAreWords = (number : ℕ) (line : List ℕ) (read : TextLine) → ended num
 -- what is read of words, with parameters in lowest terms, is printable
 abbrev pub Kept : Type 0
 Kept = (params : List Param) (grid : Fraction) (words : List (List ℕ)) (d : Declaration) → AreLowest params → All IsWord words → declared_of params grid words ≡ Ok d → IsPrintable d
-
--- in its range; a rotation is one of the 24
-abbrev pub IsRanged : Declaration → Type 0
-IsRanged (Turn name rotation) = IsName name × IsRotation rotation
-IsRanged declaration = IsInRange declaration
 
 -- what is read is in its range
 abbrev pub Ranged : Type 0

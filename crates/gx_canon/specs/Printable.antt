@@ -8,12 +8,13 @@ use Rattle.gx_shapes.specs.declared.section.Scale.{Scale}
 use Rattle.gx_shapes.specs.declared.figure.Figure.{Figure}
 use Rattle.gx_shapes.specs.declared.figure.Figure.TheVariants as figure
 use Rattle.gx_tree.specs.declared.placement.Placement.{Placement}
+use Rattle.gx_tree.specs.Hierarchy.{IsRotation}
 use Rattle.gx_tree.specs.Volume.{Volume}
 use Rattle.gx_decl.specs.declared.declaration.Declaration.{Declaration}
 use Rattle.gx_decl.specs.declared.declaration.Declaration.TheVariants as declaration
 use Rattle.gx_decl.specs.declared.declaration.Form.{Form}
 use Rattle.gx_decl.specs.declared.declaration.Form.TheVariants as form
-use Rattle.gx_decl.specs.Range.{IsName, IsForm}
+use Rattle.gx_decl.specs.Range.{IsName, IsForm, IsInRange}
 use Rattle.gx_canon.specs.Text.{IsWord}
 use Rattle.gx_canon.specs.Canonical.{form_of}
 
@@ -42,6 +43,11 @@ pub record IsCopy (n : ℤ) : Type 0 where
 abbrev pub HasCopy : Form → Type 0
 HasCopy (form.Single copy offset) = IsCopy copy
 HasCopy form = Unit {0}
+
+-- in its range; a rotation is one of the 24
+abbrev pub IsRanged : Declaration → Type 0
+IsRanged (declaration.Turn name rotation) = IsName name × IsRotation rotation
+IsRanged declaration = IsInRange declaration
 
 -- what is known of a declaration that was read, beside its range
 abbrev pub IsPrintable : Declaration → Type 0
