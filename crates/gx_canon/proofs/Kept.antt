@@ -1,6 +1,6 @@
 -- What a line declares is printable, where its words are words and its parameters are in lowest terms.
 use Rattle.std.proofs.Common.{◌≡◌, ℕ, zero, suc, ◌+◌, ℤ, pos, unsigned_abs, Bool, true, false, List, [], ◌∷◌, ◌++◌, length, All, Option, Some, None, Result, Ok, Err, refl, ap, subst, if◌then◌else◌}
-use Rattle.std.specs.Prelude.{int_le, not, ◌&&◌, ◌||◌, ◌==◌}
+use Rattle.std.specs.Prelude.{int_le, not, ◌||◌, ◌==◌}
 use Rattle.std.specs.Ordering.{int_eq}
 use Rattle.std.proofs.lemmas.List.Elements.{All-head, All-tail}
 use Rattle.gx_num.specs.declared.vector.V3.{V3}
@@ -8,8 +8,6 @@ use Rattle.gx_table.specs.declared.fault.FaultName.{FaultName}
 use Rattle.gx_table.specs.declared.fault.FaultName.TheVariants.{Words as WordsName}
 use Rattle.gx_table.specs.Table.{TableEntry, number_in}
 use Rattle.gx_text.specs.Names.{is_name_of}
-use Rattle.gx_expr.specs.declared.fault.WholeFault.{WholeFault}
-use Rattle.gx_expr.specs.declared.fault.WholeFault.TheVariants.{UnitKind as MarkedCount, Range}
 use Rattle.gx_expr.specs.Eval.{value_of_word}
 use Rattle.gx_expr.specs.Convert as convert
 use Rattle.gx_form.specs.declared.fault.Fault.{Fault}
@@ -121,23 +119,10 @@ steps_keeps =
     then_keeps words.expression words.steps_of (λ v. IsLowestFraction v.number) Anything expression_keeps
     (λ value _. record { kept = λ s n t i e. (judged_kept words.name_of_step (convert.steps value s.grid) Anything (λ _ _. tt)).kept s n t i e })
 
--- a whole number that was read is in its range
-tested : (c : Bool) (test : ℤ → Bool) (m n : ℤ) (fault : WholeFault) → test m ≡ c → (if c then Ok m else Err fault) ≡ Ok n → test n ≡ true
-tested true test m n fault is e = let same : m ≡ n = cc in subst (λ (x : ℤ). test x ≡ true) same is
-tested false test m n fault is e = absurd cc
-
-between_is : (low high : ℤ) (r : Option ℤ) (n : ℤ) → convert.between low high r ≡ Ok n → (int_le low n && int_le n high) ≡ true
-between_is low high None n e = absurd cc
-between_is low high (Some m) n e = tested (int_le low m && int_le m high) (λ n. int_le low n && int_le n high) m n Range refl e
-
-pub counted : (marked : Bool) (low high : ℤ) (r : Option ℤ) (n : ℤ) → (if marked then Err MarkedCount else convert.between low high r) ≡ Ok n → (int_le low n && int_le n high) ≡ true
-counted true low high r n e = absurd cc
-counted false low high r n e = between_is low high r n e
-
-pub whole_keeps : (low high : ℤ) (range : FaultName) → Keeps (words.whole low high range) (λ n. (int_le low n && int_le n high) ≡ true)
+whole_keeps : (low high : ℤ) (range : FaultName) → Keeps (words.whole low high range) Anything
 whole_keeps low high range =
-    then_keeps words.expression (λ value. judged (named (words.name_of_whole range) (convert.count value low high))) (λ v. IsLowestFraction v.number) _ expression_keeps
-    (λ value _. judged_kept (words.name_of_whole range) (convert.count value low high) _ (λ n e. counted (value.length || value.angle) low high (convert.whole_ratio value.number (record { num = pos 1; den = 1 })) n e))
+    then_keeps words.expression (λ value. judged (named (words.name_of_whole range) (convert.count value low high))) (λ v. IsLowestFraction v.number) Anything expression_keeps
+    (λ value _. judged_kept (words.name_of_whole range) (convert.count value low high) Anything (λ _ _. tt))
 
 scale_keeps : Keeps solids.scale IsLowestScale
 scale_keeps =
@@ -242,7 +227,7 @@ module _ (values : Source Words) (is : IsSource values) where
 words_source : IsSource of_words
 words_source = record {
   length = steps_keeps;
-  whole = λ low high range. record { kept = λ s n t i e. (tt, ((whole_keeps low high range).kept s n t i e).1) };
+  whole = whole_keeps;
   scale = scale_keeps;
 }
 

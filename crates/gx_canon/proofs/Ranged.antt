@@ -1,6 +1,6 @@
--- What a line declares is in its range.
+-- What forms give is in its range, whatever the words.
 use Rattle.std.proofs.Common.{◌≡◌, ℕ, suc, ◌-◌, ◌*◌, ◌<◌, ◌≤◌, ℤ, pos, negsuc, unsigned_abs, Bool, true, false, List, [], ◌∷◌, Option, Some, None, Result, Ok, Err, refl, subst, arith, if◌then◌else◌, inl, inr}
-use Rattle.std.specs.Prelude.{int_le, nat_le, nat_lt, ◌&&◌, ◌||◌, ◌==◌}
+use Rattle.std.specs.Prelude.{int_le, nat_le, nat_lt, ◌&&◌, ◌||◌}
 use Rattle.std.specs.List.{list_all}
 use Rattle.std.specs.Str.{str_eq_ignore_ascii_case}
 use Rattle.std.proofs.lemmas.Bool.{and_parts, leb-true, ltb-true, ltb-false, cases_Bool}
@@ -14,6 +14,8 @@ use Rattle.gx_table.specs.declared.fault.FaultName.TheVariants.{Copies, Axis, Di
 use Rattle.gx_table.specs.Table.{TableEntry, number_in}
 use Rattle.gx_text.specs.Names.{is_name_of}
 use Rattle.gx_expr.specs.Quantity.{Quantity}
+use Rattle.gx_expr.specs.declared.fault.WholeFault.{WholeFault}
+use Rattle.gx_expr.specs.declared.fault.WholeFault.TheVariants.{UnitKind as MarkedCount, Range}
 use Rattle.gx_expr.specs.declared.fault.StepFault.TheVariants.{UnitKind as AngleLength}
 use Rattle.gx_expr.specs.Convert as convert
 use Rattle.gx_form.specs.Form.{pure, collect}
@@ -24,18 +26,15 @@ use Rattle.gx_shapes.specs.declared.kind.SolidKind.{SolidKind}
 use Rattle.gx_shapes.specs.declared.kind.SolidKind.TheVariants as kind
 use Rattle.gx_shapes.specs.Figure as spec
 use Rattle.gx_shapes.specs.Source.{Source}
-use Rattle.gx_shapes.specs.Solid.{kind_of, whole_fault}
-use Rattle.gx_shapes.specs.Accepted.{IsFigure, IsSolid}
+use Rattle.gx_shapes.specs.Solid.{kind_of}
+use Rattle.gx_shapes.specs.Accepted.{IsFigure}
 use Rattle.gx_shapes.proofs.Given.{Gives, then_gives, pure_gives}
 use Rattle.gx_decl.specs.declared.declaration.Declaration.TheVariants as declaration
+use Rattle.gx_decl.specs.declared.declaration.Form.{Form}
 use Rattle.gx_decl.specs.declared.declaration.Form.TheVariants as form
-use Rattle.gx_decl.specs.declared.tag.Tag.{Tag}
-use Rattle.gx_decl.specs.declared.tag.Tag.TheVariants as of_tag
 use Rattle.gx_decl.specs.Words as words
 use Rattle.gx_decl.specs.Words.{Words, Reader, judged, named}
-use Rattle.gx_decl.specs.Decl.{tag, after_tag, line, unread}
 use Rattle.gx_decl.specs.Lines as lines
-use Rattle.gx_decl.specs.Solids as solids
 use Rattle.gx_decl.specs.Solids.{of_words}
 use Rattle.gx_decl.specs.Placements as placements
 use Rattle.gx_decl.specs.Placements.{does_reach, axes, row_kinds}
@@ -44,11 +43,8 @@ use Rattle.gx_decl.specs.Range.{IsName, IsNear, IsCount, IsGiven, IsRow, IsForm}
 use Rattle.gx_decl.proofs.Values.{IfOk-figure}
 use Rattle.gx_tree.specs.Hierarchy.{IsRotation}
 use Rattle.gx_canon.proofs.Turned.{values_gives}
-use Rattle.gx_canon.specs.Printable.{IsRanged}
-use Rattle.gx_canon.specs.Laws.{Ranged}
-use Rattle.gx_canon.proofs.Forms.{Anything, anything, after, choice_gives}
-use Rattle.gx_canon.proofs.Kept.{counted}
-use Rattle.gx_canon.proofs.KeptLines.{answered}
+use Rattle.gx_canon.specs.Printable.{IsCopy, HasCopy, IsKept}
+use Rattle.gx_canon.proofs.Forms.{Anything, anything, after}
 
 -- ---- tests
 
@@ -68,7 +64,7 @@ unless false i fault q P h = h refl
 
 -- ---- words
 
-name_gives : Gives words.name IsName
+pub name_gives : Gives words.name IsName
 name_gives = then_gives words.word _ Anything IsName (anything words.word) (λ w _. passed (is_name_of w) w _ IsName (λ e. e) (refused _))
 
 judged_gives : {A E : Type 0} (to : E → FaultName) (r : Result A E) (P : A → Type 0) → ((a : A) → r ≡ Ok a → P a) → Gives (judged (named to r)) P
@@ -95,6 +91,19 @@ steps_gives : Gives words.steps IsNear
 steps_gives =
     then_gives words.expression words.steps_of Anything IsNear (anything words.expression)
     (λ value _. record { given = λ s n t e. (judged_gives words.name_of_step (convert.steps value s.grid) IsNear (from_steps value s.grid)).given s n t e })
+
+-- a whole number that was read is in its range
+tested : (c : Bool) (test : ℤ → Bool) (m n : ℤ) (fault : WholeFault) → test m ≡ c → (if c then Ok m else Err fault) ≡ Ok n → test n ≡ true
+tested true test m n fault is e = let same : m ≡ n = cc in subst (λ (x : ℤ). test x ≡ true) same is
+tested false test m n fault is e = absurd cc
+
+between_is : (low high : ℤ) (r : Option ℤ) (n : ℤ) → convert.between low high r ≡ Ok n → (int_le low n && int_le n high) ≡ true
+between_is low high None n e = absurd cc
+between_is low high (Some m) n e = tested (int_le low m && int_le m high) (λ n. int_le low n && int_le n high) m n Range refl e
+
+counted : (marked : Bool) (low high : ℤ) (r : Option ℤ) (n : ℤ) → (if marked then Err MarkedCount else convert.between low high r) ≡ Ok n → (int_le low n && int_le n high) ≡ true
+counted true low high r n e = absurd cc
+counted false low high r n e = between_is low high r n e
 
 whole_gives : (low high : ℤ) (range : FaultName) → Gives (words.whole low high range) (λ n. (int_le low n && int_le n high) ≡ true)
 whole_gives low high range =
@@ -134,38 +143,8 @@ figure_kind source kind.Tet = after (spec.point_in source) _ (IsOf kind.Tet) (λ
 figure_kind source kind.Extruded = after (spec.corner_count source) _ (IsOf kind.Extruded) (λ n. after (collect n (spec.corner_in source)) _ (IsOf kind.Extruded) (λ corners. after (source.whole (pos 2) (pos 2) Sections) _ (IsOf kind.Extruded) (λ two. after (spec.sections source corners) _ (IsOf kind.Extruded) (λ ends. pure_gives (figure.Extruded corners ends.0 ends.1) (IsOf kind.Extruded) refl))))
 figure_kind source kind.Tessellated = after (source.whole (pos 1) (pos 4096) Count) _ (IsOf kind.Tessellated) (λ n. after (collect (unsigned_abs n) (spec.facet_in source)) _ (IsOf kind.Tessellated) (λ facets. pure_gives (figure.Tessellated facets) (IsOf kind.Tessellated) refl))
 
-figure_gives : (k : SolidKind) → Gives (spec.figure_in of_words k) IsFigure
+pub figure_gives : (k : SolidKind) → Gives (spec.figure_in of_words k) IsFigure
 figure_gives k = record { given = λ s f t e. IfOk-figure k s (Ok f) t e ((figure_kind of_words k).given s f t e) }
-
-made_by : (f : Figure) (o : Option FaultName) → whole_fault f ≡ o → IsFigure f → Gives (solids.unless_fault f o) IsSolid
-made_by f None none is = pure_gives f IsSolid (record { values = is; whole = none })
-made_by f (Some fault) none is = record { given = λ s a t e. absurd cc }
-
-solid_gives : Gives solids.solid IsRanged
-solid_gives =
-    then_gives words.name _ IsName IsRanged name_gives (λ n hn.
-    after solids.kind _ IsRanged (λ k.
-    then_gives (spec.figure_in of_words k) _ IsFigure IsRanged (figure_gives k) (λ f hf.
-    after words.end _ IsRanged (λ _.
-    then_gives (solids.made f) _ IsSolid IsRanged (made_by f (whole_fault f) refl hf) (λ s hs. pure_gives (declaration.Solid n s) IsRanged (hn, hs))))))
-
-of_name_gives : (n : List ℕ) → IsName n → Gives (solids.of_name n) IsRanged
-of_name_gives n hn =
-    then_gives words.name _ IsName IsRanged name_gives (λ s hs.
-    then_gives words.name _ IsName IsRanged name_gives (λ m hm. after words.end _ IsRanged (λ _. pure_gives (declaration.Named n s m) IsRanged (hn, hs, hm))))
-
-of_kind_gives : (n : List ℕ) → IsName n → Gives (solids.of_kind n) IsRanged
-of_kind_gives n hn =
-    after solids.kind _ IsRanged (λ k.
-    then_gives (spec.figure_in of_words k) _ IsFigure IsRanged (figure_gives k) (λ f hf.
-    then_gives words.name _ IsName IsRanged name_gives (λ m hm.
-    after words.end _ IsRanged (λ _.
-    then_gives (solids.made f) _ IsSolid IsRanged (made_by f (whole_fault f) refl hf) (λ s hs. pure_gives (declaration.Volume n s m) IsRanged (hn, hs, hm))))))
-
-volume_gives : Gives solids.volume IsRanged
-volume_gives =
-    then_gives words.name _ IsName IsRanged name_gives (λ n hn.
-    after words.left _ IsRanged (λ count. choice_gives (count == 2) (solids.of_name n) (solids.of_kind n) IsRanged (of_name_gives n hn) (of_kind_gives n hn)))
 
 -- ---- placements
 
@@ -175,27 +154,33 @@ count_gives =
     let both = and_parts (int_le (pos 1) n) (int_le n (pos 4096)) h in
     pure_gives (unsigned_abs n) IsCount (record { some = omega (arith, ints, both.0, both.1); few = omega (arith, ints, both.0, both.1) }))
 
-repl_gives : Gives placements.repl IsRanged
+pub repl_gives : Gives placements.repl IsKept
 repl_gives =
-    then_gives words.name _ IsName IsRanged name_gives (λ v hv.
-    then_gives words.name _ IsName IsRanged name_gives (λ m hm.
-    then_gives placements.axis _ (λ k. k < 3) IsRanged (row_gives 3 axes Axis refl) (λ axis along.
-    then_gives placements.copies _ IsCount IsRanged count_gives (λ count is.
-    then_gives words.steps _ IsNear IsRanged steps_gives (λ width near.
-    after placements.offset_if_any _ IsRanged (λ _.
-    after words.end _ IsRanged (λ _.
-    pure_gives (declaration.Place v m None (form.Replica axis count width)) IsRanged
-    (record { volume_named = hv; mother_named = hm; rotation_named = tt; formed = record { along = along; counted = is; near_width = near } }))))))))
+    then_gives words.name _ IsName IsKept name_gives (λ v hv.
+    then_gives words.name _ IsName IsKept name_gives (λ m hm.
+    then_gives placements.axis _ (λ k. k < 3) IsKept (row_gives 3 axes Axis refl) (λ axis along.
+    then_gives placements.copies _ IsCount IsKept count_gives (λ count is.
+    then_gives words.steps _ IsNear IsKept steps_gives (λ width near.
+    after placements.offset_if_any _ IsKept (λ _.
+    after words.end _ IsKept (λ _.
+    pure_gives (declaration.Place v m None (form.Replica axis count width)) IsKept (record { volume_named = hv; mother_named = hm; rotation_named = tt; formed = record { along = along; counted = is; near_width = near } }, tt))))))))
 
-single_gives : Gives placements.place IsRanged
+copy_gives : Gives placements.copy_number IsCopy
+copy_gives = record {
+  given = λ s n t e.
+      let both = and_parts (int_le (negsuc 2147483647) n) (int_le n (pos 2147483647)) ((whole_gives (negsuc 2147483647) (pos 2147483647) Copies).given s n t e) in
+      record { low = omega (arith, ints, both.0); high = omega (arith, ints, both.1) };
+}
+
+pub single_gives : Gives placements.place IsKept
 single_gives =
-    then_gives words.name _ IsName IsRanged name_gives (λ v hv.
-    after placements.copy_number _ IsRanged (λ copy.
-    then_gives words.name _ IsName IsRanged name_gives (λ m hm.
-    then_gives words.name _ IsName IsRanged name_gives (λ rotation hr.
-    then_gives lines.vector _ (IsWithin (unsigned_abs M)) IsRanged vector_gives (λ offset near.
-    after words.end _ IsRanged (λ _.
-    pure_gives (declaration.Place v m (Some rotation) (form.Single copy offset)) IsRanged (record { volume_named = hv; mother_named = hm; rotation_named = hr; formed = near })))))))
+    then_gives words.name _ IsName IsKept name_gives (λ v hv.
+    then_gives placements.copy_number _ IsCopy IsKept copy_gives (λ copy hc.
+    then_gives words.name _ IsName IsKept name_gives (λ m hm.
+    then_gives words.name _ IsName IsKept name_gives (λ rotation hr.
+    then_gives lines.vector _ (IsWithin (unsigned_abs M)) IsKept vector_gives (λ offset near.
+    after words.end _ IsKept (λ _.
+    pure_gives (declaration.Place v m (Some rotation) (form.Single copy offset)) IsKept (record { volume_named = hv; mother_named = hm; rotation_named = hr; formed = near }, hc)))))))
 
 -- between the first and the last of a row are the others
 between : (offset step : ℤ) (i last : ℕ) → i ≤ last → IsNear (place offset step 0) → IsNear (place offset step last) → IsNear (place offset step i)
@@ -221,11 +206,14 @@ one_row_gives =
     then_gives words.steps _ IsNear IsGiven steps_gives (λ step hs.
     then_gives words.steps _ IsNear IsGiven steps_gives (λ offset ho. pure_gives _ IsGiven (record { counted = is; near_step = hs; near_offset = ho }))))
 
-linear_gives : (axis : ℕ) → axis < 3 → Gives (placements.linear axis) IsForm
+abbrev IsRows : Form → Type 0
+IsRows f = IsForm f × HasCopy f
+
+linear_gives : (axis : ℕ) → axis < 3 → Gives (placements.linear axis) IsRows
 linear_gives axis along =
-    then_gives placements.one_row _ IsGiven IsForm one_row_gives (λ r is.
-    after words.end _ IsForm (λ _.
-    then_gives (placements.reaches_at 8 r) _ (λ _. IsRow r.count r.step r.offset) IsForm (reaches_gives 8 r is) (λ _ row. pure_gives (form.Linear axis r.count r.step r.offset) IsForm (record { along = along; row = row }))))
+    then_gives placements.one_row _ IsGiven IsRows one_row_gives (λ r is.
+    after words.end _ IsRows (λ _.
+    then_gives (placements.reaches_at 8 r) _ (λ _. IsRow r.count r.step r.offset) IsRows (reaches_gives 8 r is) (λ _ row. pure_gives (form.Linear axis r.count r.step r.offset) IsRows (record { along = along; row = row }, tt))))
 
 second_count_gives : (n : ℕ) → Gives (placements.rows_of n) (λ m. IsCount m × (n * m ≤ 4096))
 second_count_gives n =
@@ -241,62 +229,43 @@ two_rows_gives =
     then_gives words.steps _ IsNear _ steps_gives (λ o2 l2.
     pure_gives _ _ (record { counted = h1; near_step = k1; near_offset = l1 }, record { counted = h2.0; near_step = k2; near_offset = l2 }, h2.1)))))))
 
-square_gives : (plane : ℕ) → plane < 3 → Gives (placements.square plane) IsForm
+square_gives : (plane : ℕ) → plane < 3 → Gives (placements.square plane) IsRows
 square_gives plane along =
-    then_gives placements.two_rows _ (λ rs. IsGiven rs.0 × IsGiven rs.1 × (rs.0.count * rs.1.count ≤ 4096)) IsForm two_rows_gives (λ rs is.
-    after words.end _ IsForm (λ _.
-    then_gives (placements.reaches_at 9 rs.0) _ (λ _. IsRow rs.0.count rs.0.step rs.0.offset) IsForm (reaches_gives 9 rs.0 is.0) (λ _ first.
-    then_gives (placements.reaches_at 10 rs.1) _ (λ _. IsRow rs.1.count rs.1.step rs.1.offset) IsForm (reaches_gives 10 rs.1 is.1) (λ _ second.
-    pure_gives (form.Square plane rs.0.count rs.1.count rs.0.step rs.1.step rs.0.offset rs.1.offset) IsForm (record { along = along; first = first; second = second; few = is.2 })))))
+    then_gives placements.two_rows _ (λ rs. IsGiven rs.0 × IsGiven rs.1 × (rs.0.count * rs.1.count ≤ 4096)) IsRows two_rows_gives (λ rs is.
+    after words.end _ IsRows (λ _.
+    then_gives (placements.reaches_at 9 rs.0) _ (λ _. IsRow rs.0.count rs.0.step rs.0.offset) IsRows (reaches_gives 9 rs.0 is.0) (λ _ first.
+    then_gives (placements.reaches_at 10 rs.1) _ (λ _. IsRow rs.1.count rs.1.step rs.1.offset) IsRows (reaches_gives 10 rs.1 is.1) (λ _ second.
+    pure_gives (form.Square plane rs.0.count rs.1.count rs.0.step rs.1.step rs.0.offset rs.1.offset) IsRows (record { along = along; first = first; second = second; few = is.2 }, tt)))))
 
-rows_gives : (kind : ℕ) → kind < 6 → Gives (placements.rows kind) IsForm
+rows_gives : (kind : ℕ) → kind < 6 → Gives (placements.rows kind) IsRows
 rows_gives kind less = by (nat_lt kind 3) refl
   where
-    by : (c : Bool) → nat_lt kind 3 ≡ c → Gives (if c then placements.linear kind else placements.square (kind - 3)) IsForm
+    by : (c : Bool) → nat_lt kind 3 ≡ c → Gives (if c then placements.linear kind else placements.square (kind - 3)) IsRows
     by true e = linear_gives kind (ltb-true kind 3 e)
     by false e = square_gives (kind - 3) (omega (arith, less, ltb-false kind 3 e))
 
-place_param_gives : Gives placements.place_param IsRanged
+pub place_param_gives : Gives placements.place_param IsKept
 place_param_gives =
-    then_gives words.name _ IsName IsRanged name_gives (λ v hv.
-    after placements.copy_number _ IsRanged (λ copy.
-    then_gives words.name _ IsName IsRanged name_gives (λ m hm.
-    then_gives placements.row_kind _ (λ k. k < 6) IsRanged (row_gives 6 row_kinds Axis refl) (λ kind less.
-    then_gives words.name _ IsName IsRanged name_gives (λ rotation hr.
-    then_gives (placements.rows kind) _ IsForm IsRanged (rows_gives kind less) (λ f hf.
-    pure_gives (declaration.Place v m (Some rotation) f) IsRanged (record { volume_named = hv; mother_named = hm; rotation_named = hr; formed = hf })))))))
+    then_gives words.name _ IsName IsKept name_gives (λ v hv.
+    after placements.copy_number _ IsKept (λ copy.
+    then_gives words.name _ IsName IsKept name_gives (λ m hm.
+    then_gives placements.row_kind _ (λ k. k < 6) IsKept (row_gives 6 row_kinds Axis refl) (λ kind less.
+    then_gives words.name _ IsName IsKept name_gives (λ rotation hr.
+    then_gives (placements.rows kind) _ IsRows IsKept (rows_gives kind less) (λ f hf.
+    pure_gives (declaration.Place v m (Some rotation) f) IsKept (record { volume_named = hv; mother_named = hm; rotation_named = hr; formed = hf.0 }, hf.1)))))))
 
--- ---- any line
+-- ---- parameters, rotations and rays
 
-param_gives : Gives lines.param IsRanged
-param_gives =
-    then_gives words.param_name _ (λ w. words.is_param_name w ≡ true) IsRanged
-    (after words.word _ (λ w. words.is_param_name w ≡ true) (λ w. passed (words.is_param_name w) w _ (λ w. words.is_param_name w ≡ true) (λ e. e) (refused _)))
-    (λ n hn. after words.expression _ IsRanged (λ v. after words.end _ IsRanged (λ _. pure_gives (declaration.Param n v) IsRanged hn)))
+pub param_name_gives : Gives words.param_name (λ w. words.is_param_name w ≡ true)
+param_name_gives =
+    after words.word _ (λ w. words.is_param_name w ≡ true) (λ w. passed (words.is_param_name w) w _ (λ w. words.is_param_name w ≡ true) (λ e. e) (refused _))
 
-rotm_gives : Gives turns.rotm IsRanged
-rotm_gives = then_gives words.name _ IsName IsRanged name_gives (λ n hn. then_gives turns.values _ IsRotation IsRanged values_gives (λ m hm. pure_gives (declaration.Turn n m) IsRanged (hn, hm)))
+pub rotm_gives : Gives turns.rotm IsKept
+rotm_gives = then_gives words.name _ IsName IsKept name_gives (λ n hn. then_gives turns.values _ IsRotation IsKept values_gives (λ m hm. pure_gives (declaration.Turn n m) IsKept ((hn, hm), tt)))
 
-ray_gives : Gives lines.ray IsRanged
+pub ray_gives : Gives lines.ray IsKept
 ray_gives =
-    then_gives lines.vector _ (IsWithin (unsigned_abs M)) IsRanged vector_gives (λ o ho.
-    then_gives lines.vector _ (IsWithin (unsigned_abs M)) IsRanged vector_gives (λ d hd.
-    after words.end _ IsRanged (λ _.
-    unless (lines.is_zero d) 5 Direction _ IsRanged (λ e. pure_gives (declaration.Trace (record { o = o; d = d })) IsRanged (record { origin = ho; near = hd; direction = e })))))
-
-after_tag_gives : (t : Tag) → Gives (after_tag t) IsRanged
-after_tag_gives of_tag.Param = param_gives
-after_tag_gives of_tag.Solid = solid_gives
-after_tag_gives of_tag.Volume = volume_gives
-after_tag_gives of_tag.Place = single_gives
-after_tag_gives of_tag.Replica = repl_gives
-after_tag_gives of_tag.Row = place_param_gives
-after_tag_gives of_tag.Turn = rotm_gives
-after_tag_gives of_tag.Ray = ray_gives
-after_tag_gives of_tag.Passed = pure_gives declaration.Passed IsRanged tt
-
-pub ranged : Ranged
-ranged params grid words d e =
-    let start = unread params grid words in
-    let read = answered (line start) d e in
-    (after tag after_tag IsRanged after_tag_gives).given start d read.0 read.1
+    then_gives lines.vector _ (IsWithin (unsigned_abs M)) IsKept vector_gives (λ o ho.
+    then_gives lines.vector _ (IsWithin (unsigned_abs M)) IsKept vector_gives (λ d hd.
+    after words.end _ IsKept (λ _.
+    unless (lines.is_zero d) 5 Direction _ IsKept (λ e. pure_gives (declaration.Trace (record { o = o; d = d })) IsKept (record { origin = ho; near = hd; direction = e }, tt)))))

@@ -16,7 +16,7 @@ use Rattle.gx_decl.specs.Range.{IsTraceable}
 use Rattle.gx_canon.specs.Text.{text_of, IsWord, IsLine, read_from, lines_from}
 use Rattle.gx_canon.specs.Words.{words_of}
 use Rattle.gx_canon.specs.Canonical.{rotation_name, rotation_number, turns, declarations_of, canonical, millimetre}
-use Rattle.gx_canon.specs.Printable.{AreLowest, IsRanged, IsPrintable, IsPrintableVolume}
+use Rattle.gx_canon.specs.Printable.{AreLowest, IsKept, IsPrintableVolume}
 
 -- the lines of a printed text, read, are those that were printed
 abbrev pub LinesBack : Type 0
@@ -51,10 +51,6 @@ pub record RotationsBack : Type 0 where
 abbrev pub WordsAreWords : Type 0
 WordsAreWords = (number : ℕ) (line : List ℕ) (read : TextLine) → ended number line ≡ Ok (Some read) → All IsWord read.words
 
--- what is read of words, with parameters in lowest terms, is printable
+-- what is read of words, with parameters in lowest terms, is in its range and printable
 abbrev pub Kept : Type 0
-Kept = (params : List Param) (grid : Fraction) (words : List (List ℕ)) (d : Declaration) → AreLowest params → All IsWord words → declared_of params grid words ≡ Ok d → IsPrintable d
-
--- what is read is in its range
-abbrev pub Ranged : Type 0
-Ranged = (params : List Param) (grid : Fraction) (words : List (List ℕ)) (d : Declaration) → declared_of params grid words ≡ Ok d → IsRanged d
+Kept = (params : List Param) (grid : Fraction) (words : List (List ℕ)) (d : Declaration) → AreLowest params → All IsWord words → declared_of params grid words ≡ Ok d → IsKept d

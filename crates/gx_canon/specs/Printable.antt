@@ -58,6 +58,10 @@ IsPrintable (declaration.Named name solid material) = IsWord name × IsWord mate
 IsPrintable (declaration.Place volume mother rotation form) = HasCopy form
 IsPrintable declaration = Unit {0}
 
+-- all that is known of it
+abbrev pub IsKept : Declaration → Type 0
+IsKept d = IsRanged d × IsPrintable d
+
 -- ---- in a hierarchy
 
 -- a name that is a word of a line

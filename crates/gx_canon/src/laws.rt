@@ -1,5 +1,5 @@
 //! Laws over the definitions, each the contract of a function that does nothing.
-ghost use Rattle.gx_canon.specs.Laws.{LinesBack, DeclarationsBack, TextBack, RotationsBack, WordsAreWords, Kept, Ranged};
+ghost use Rattle.gx_canon.specs.Laws.{LinesBack, DeclarationsBack, TextBack, RotationsBack, WordsAreWords, Kept};
 
 /// The lines of a printed text are those that were printed.
 pub fn lines_back()
@@ -26,12 +26,7 @@ pub fn words_are_words()
     ensures { WordsAreWords }
 {}
 
-/// What a line declares is printable.
+/// What a line declares is in its range and printable.
 pub fn kept()
     ensures { Kept }
-{}
-
-/// What a line declares is in its range.
-pub fn ranged()
-    ensures { Ranged }
 {}
