@@ -1,2 +1,2 @@
 mod Replay
-mod Values
+pub mod Values

@@ -1,0 +1,5 @@
+pub mod Canonical
+pub mod Laws
+pub mod Printable
+pub mod Text
+pub mod Words
