@@ -1,5 +1,5 @@
 -- A world by the faces of its solid: it is bounded, and its points are those of the faces.
-use Rattle.std.proofs.Common.{◌≡◌, ℕ, zero, suc, ◌+◌, ◌*◌, ◌≤◌, ℤ, pos, negsuc, ◌*ℤ◌, ◌<ℤ◌, unsigned_abs, List, [], Option, Some, None, if◌then◌else◌, refl, sym, subst, ◌∙◌, arith}
+use Rattle.std.proofs.Common.{◌≡◌, ℕ, zero, suc, ◌+◌, ◌*◌, ◌≤◌, ℤ, pos, negsuc, ◌*ℤ◌, ◌<ℤ◌, unsigned_abs, List, [], ◌∷◌, Option, Some, None, if◌then◌else◌, refl, sym, ap, subst, ◌∙◌, arith}
 use Rattle.std.proofs.lemmas.Int.{ints, unsigned_abs-mul}
 use Rattle.std.proofs.lemmas.Nat.{mul-le}
 use Rattle.gx_num.specs.declared.vector.V3.{V3}
@@ -18,7 +18,7 @@ use Rattle.gx_shapes.proofs.Solids.{faces_are_the_solid_of}
 use Rattle.gx_path.specs.Report.{Row, IsReport}
 use Rattle.gx_num.specs.Vector4.{Vec4}
 use Rattle.gx_tree.specs.Hierarchy.{Hierarchy, volume_at, instances, max_depth}
-use Rattle.gx_tree.specs.Deepest.{descend, path_along}
+use Rattle.gx_tree.specs.Deepest.{local_of, is_inside_daughter, first_from, descend, path_along}
 use Rattle.gx_clip.specs.declared.span.Span.{Span}
 use Rattle.gx_clip.specs.Clip.{IsBounded, IsClip}
 use Rattle.gx_clip.proofs.Clips.{clip_exists}
@@ -80,7 +80,10 @@ module _ (h : Hierarchy) (ray : Ray) (solid : IsSolid (volume_at h.volumes h.wor
   -- no daughter is gone down into
   stays : (n : ℕ) (p : Vec4) → descend h n h.world p ≡ []
   stays zero p = refl
-  stays (suc n) p = rw alone refl
+  stays (suc n) p = ap (λ is. elim (first_from (is_inside_daughter h p) 0 is) [
+    | None ↦ []
+    | Some d ↦ d.ordinal ∷ descend h n d.instance.volume (local_of d.instance p)
+  ]) alone
 
   path_is : path_within (solid_of world_figure) ray ≡ path_along h ray
   path_is = λ i t. if is_inside (solid_of world_figure) (point_of_ray ray t) then Some (sym (stays max_depth (point_of_ray ray t)) i) else None
