@@ -1,4 +1,4 @@
-use Rattle.std.proofs.Common.{◌≡◌, ℕ, ◌+◌, ◌≤◌, ◌++◌, List, length, take, drop, refl, ap, ◌∙◌, arith, length-take}
+use Rattle.std.proofs.Common.{◌+◌, ◌≤◌, ◌++◌, length, take, drop, refl, ap, ◌∙◌, arith, length-take}
 use Rattle.std.proofs.lemmas.List.{take-append-le}
 use Rattle.std.proofs.lemmas.Result.{err_from_is_err_and}
 use Rattle.std.proofs.lemmas.Grind.{common_steps}
