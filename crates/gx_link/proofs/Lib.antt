@@ -2,3 +2,4 @@ mod Daughters
 mod Limits
 mod Linked
 mod Lists
+mod Told

@@ -1,5 +1,5 @@
 -- What all lines of a text declare: a hierarchy and rays, or the first fault that isn't one line's.
-use Rattle.std.specs.Prelude.{ℕ, ◌+◌, List, [], ◌∷◌, map, slice_index_or, Option, None, Some, Result, Ok, Err}
+use Rattle.std.specs.Prelude.{ℕ, ◌+◌, List, [], ◌∷◌, map, slice_index, Option, None, Some, Result, Ok, Err}
 use Rattle.gx_table.specs.declared.fault.FaultName.{FaultName}
 use Rattle.gx_table.specs.declared.fault.FaultName.TheVariants as name
 use Rattle.gx_form.specs.First.{◌>>=◌}
@@ -33,11 +33,11 @@ lines_of volumes = map (λ (volume : LinkedVolume). volume.line) volumes
 
 -- a fault at the name of volume v, of which these are the lines
 abbrev pub at_volume : List ℕ → ℕ → FaultName → TextFault
-at_volume lines v name = fault_at (slice_index_or lines v 0) 2 name
+at_volume lines v name = fault_at (slice_index lines v) 2 name
 
 -- a fault at the tag of the k-th placement in a mother
 abbrev pub at_placement : List LinkedPlacement → ℕ → ℕ → FaultName → TextFault
-at_placement placements mother k name = fault_at (slice_index_or (map (λ (p : LinkedPlacement). p.line) (placed_in mother placements)) k 0) 1 name
+at_placement placements mother k name = fault_at (slice_index (map (λ (p : LinkedPlacement). p.line) (placed_in mother placements)) k) 1 name
 
 -- where a fault of the hierarchy stands
 abbrev pub fault_of_tree : List ℕ → List LinkedPlacement → TreeFault → TextFault

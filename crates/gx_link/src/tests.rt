@@ -193,9 +193,7 @@ fn mothers(alloc: Global, count: u32) -> Result<String, Fail> {
     text.push_str(":ROTM r0 0 0 0\n:VOLU d BOX 1 1 1 Air\n")?;
     for k in 0..count {
         text.push_str(&format!(in alloc; ":VOLU m{k} BOX 1 1 1 Air\n")?)?;
-        text.push_str(
-            &format!(in alloc; ":PLACE_PARAM d 1 m{k} SQUARE_XY r0 64 64 0 0 0 0\n")?,
-        )?;
+        text.push_str(&format!(in alloc; ":PLACE_PARAM d 1 m{k} SQUARE_XY r0 64 64 0 0 0 0\n")?)?;
     }
     Ok(text)
 }
