@@ -1,5 +1,5 @@
 -- Traces: each list of rays has one, and it grows ray by ray.
-use Rattle.std.proofs.Common.{◌≡◌, ℕ, suc, zero, ◌+◌, ◌<◌, ◌≤◌, List, [], ◌∷◌, ◌++◌, length, drop, Option, Some, refl, sym, ap, ◌∙◌, subst, append_assoc, append-nil, arith}
+use Rattle.std.proofs.Common.{◌≡◌, ℕ, suc, zero, ◌+◌, ◌≤◌, nat_eq, false, List, [], ◌∷◌, ◌++◌, length, drop, Option, Some, refl, sym, ap, ◌∙◌, subst, append_assoc, append-nil}
 use Rattle.std.specs.Prelude.{slice_get}
 use Rattle.std.specs.List.{AllByRecursion}
 use Rattle.std.proofs.lemmas.List.{drop_more, drop_all}
@@ -69,15 +69,12 @@ module _ (h : Hierarchy) (rays : List Ray) (i : ℕ) (old mid new : Option (List
 
 pub traced_whole : (h : Hierarchy) (rays : List Ray) (i : ℕ) (old new : Option (List ℕ)) → Traced h rays i old new → length rays ≤ i
     → (bytes : List ℕ) × IsTrace h 1 rays bytes × (new ≡ with_after old bytes)
-traced_whole h rays i old new so_far h =
-    let none : IsTrace h (i + 1) (drop i rays) [] = rw (drop_all i rays h) refl in
+traced_whole h rays i old new so_far done =
+    let none : IsTrace h (i + 1) (drop i rays) [] = rw (drop_all i rays done) refl in
     (so_far.written ++ [], so_far.goes_on [] none, so_far.is ∙ ap (with_after old) (sym (append-nil so_far.written)))
 
--- no daughters, or a first one
-pub no_items : (is : List Instance) → length is ≡ 0 → is ≡ []
-no_items [] e = refl
-no_items (i ∷ is) e = absurd (omega (arith, e))
-
-pub some_items : (is : List Instance) → 0 < length is → (first : Instance) × (rest : List Instance) × (is ≡ first ∷ rest)
-some_items [] less = absurd (omega (arith, less))
-some_items (i ∷ is) less = (i, is, refl)
+-- where they aren't none there is a first daughter
+pub some_items : (is : List Instance) (count : ℕ) → count ≡ length is → nat_eq count 0 ≡ false → (first : Instance) × (rest : List Instance) × (is ≡ first ∷ rest)
+some_items (i ∷ is) count e some = (i, is, refl)
+some_items [] zero e some = absurd cc
+some_items [] (suc count) e some = absurd cc

@@ -28,7 +28,7 @@ returns-in_err-print_report-clause-bytes g c =
     let p = err_from_is_err_and c.from_residual.result c.from_residual.ensures.1 in
     let kept = recursion_from_All IsTraceable input.rays c.count-i-end.ensures.kept in
     let solid = subst IsSolid (c.solid.ensures.value ∙ ap (λ v. (volume_at input.tree.volumes v).solid) c.world.ensures.value) c.solid.ensures.solid in
-    let front = traced_front input.tree input.rays c.loop-i.i _ _ _ l.traced c.ray.result c.ray.ensures.ray report.0 report.1 solid c.requires kept report.2.front in
+    let front = traced_front input.tree input.rays c.loop-i.i _ _ _ l.traced c.ray.result c.ray.ensures.ray report.0 report.1 solid c.requires.alone kept report.2.front in
     rw p.1 (front.0, front.1, record { all = tt; front = front.2 })
 
 pub returns-clause-bytes : goal.returns-clause-bytes
