@@ -1,0 +1,4 @@
+mod Clean
+mod Giving
+mod Ordinals
+mod Seeking
