@@ -154,6 +154,10 @@ module _ (h : Hierarchy) (tree : IsTree h) where
   unfolding nth
   nth-placed v k below = get_or-map (placed_vertices h) (instances h v) k nothing [] below
 
+  nth-between : (v i j : ℕ) → i < length (instances h v) → j < length (instances h v)
+      → first_between (get_or (placed_daughters h v) i []) (get_or (placed_daughters h v) j []) ≡ first_between (placed_vertices h (nth v i)) (placed_vertices h (nth v j))
+  nth-between v i j first second = λ k. first_between (nth-placed v i first k) (nth-placed v j second k)
+
   Unrefuted : Verdict → Type 0
   Unrefuted x = refutes x ≡ false
 
@@ -168,7 +172,7 @@ module _ (h : Hierarchy) (tree : IsTree h) where
     unfolding Unrefuted nth
     pair_unrefuted i j less within =
         let first : i < length (instances h v) = omega arith in
-        by_plane v i j _ _ (rw (nth-placed v i first, nth-placed v j within) ((disjoint_where (nth v i) (nth v j) (nth-body v i first) (nth-body v j within)).0 (clean.disjoint v below i j nothing less within)))
+        by_plane v i j _ _ (subst IsParted (sym (nth-between v i j first within)) ((disjoint_where (nth v i) (nth v j) (nth-body v i first) (nth-body v j within)).0 (clean.disjoint v below i j nothing less within)))
 
     mother_unrefuted : All Unrefuted (verdicts_in h v)
     mother_unrefuted =
@@ -208,18 +212,19 @@ module _ (h : Hierarchy) (tree : IsTree h) where
         let ds = placed_daughters h v in
         let first : i < length (instances h v) = omega arith in
         let among = Contains-flat_map (verdicts_with v ds) (ordinals_from 0 ds) i _ (Contains-range 0 (length ds - 0) i (omega arith) (omega arith)) (Contains-map (pair_verdict v ds i) (ordinals_from (i + 1) ds) j (Contains-range (i + 1) (length ds - (i + 1)) j (omega arith) (omega arith))) in
-        let parted = some_plane v i j _ _ (passes _ (Contains-append_right (daughter_verdicts v (solid_vertices h v) ds) (pair_verdicts v ds) _ among)) in
-        (disjoint_where (nth v i) (nth v j) (nth-body v i first) (nth-body v j within)).1 (rw (← nth-placed v i first, ← nth-placed v j within) parted)
+        let between = first_between (get_or ds i []) (get_or ds j []) in
+        let plane = some_plane v i j between (unwrap_or (common_of (get_or ds i []) (get_or ds j [])) []) (passes (pair_verdict v ds i j) (Contains-append_right (daughter_verdicts v (solid_vertices h v) ds) (pair_verdicts v ds) _ among)) in
+        (disjoint_where (nth v i) (nth v j) (nth-body v i first) (nth-body v j within)).1 (subst IsParted (nth-between v i j first within) plane)
+
+  nth-same : (v k : ℕ) (d : Instance) → k < length (instances h v) → nth v k ≡ get_or (instances h v) k d
+  unfolding nth
+  nth-same v k d less = get_or_default (instances h v) k nothing d less
 
   clean_from : find refutes (verdicts h) ≡ None → IsClean h
   clean_from none = record {
-    contained = λ v below k d less. subst (IsContainedIn h v) (same v k d less) (contained_at none v below k less);
-    disjoint = λ v below i j d less within. subst (λ a. AreDisjoint h a (get_or (instances h v) j d)) (same v i d (omega arith)) (subst (λ b. AreDisjoint h (nth v i) b) (same v j d within) (disjoint_at none v below i j less within));
+    contained = λ v below k d less. subst (IsContainedIn h v) (nth-same v k d less) (contained_at none v below k less);
+    disjoint = λ v below i j d less within. subst (λ a. AreDisjoint h a (get_or (instances h v) j d)) (nth-same v i d (omega arith)) (subst (λ b. AreDisjoint h (nth v i) b) (nth-same v j d within) (disjoint_at none v below i j less within));
   }
-    where
-      same : (v k : ℕ) (d : Instance) → k < length (instances h v) → nth v k ≡ get_or (instances h v) k d
-      unfolding nth
-      same v k d less = get_or_default (instances h v) k nothing d less
 
 pub clean_where_unrefuted : CleanWhereUnrefuted
 clean_where_unrefuted h tree = (unrefuted h tree, clean_from h tree)

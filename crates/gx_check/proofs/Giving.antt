@@ -97,6 +97,12 @@ module _ {S A : Type 0} {held : S → Option (List A)} {items : S → Verdict �
           subst (λ t. All (λ v. IsTrue (t v)) a) (sym going.same_takes)
           (All-append_parts (λ v. IsTrue (takes before v)) going.done a (All-append_parts (λ v. IsTrue (takes before v)) (going.done ++ a) rest (subst (All (λ v. IsTrue (takes before v))) (sym parts) all)).0).1
 
+      whole_is : (told (items before) s going.done ++ told (items before) s a) ++ told (items before) s rest ≡ told (items before) s whole
+      whole_is =
+          ap (λ xs. xs ++ told (items before) s rest) (sym (told-append (items before) s going.done a))
+          ∙ sym (told-append (items before) s (going.done ++ a) rest)
+          ∙ ap (told (items before) s) parts
+
       pub more : {T : Type 0} {t : T} (next : S) (counts_more counts_next : Counts) → Gives held items takes faults now next (chosen s a) (Ok {E = CheckError} t) → counts_more ≡ counts_of a → counts_next ≡ plus counts counts_more → Going held items takes faults before next s whole rest counts_next
       unfolding told
       more next counts_more counts_next gives e f = record {
@@ -114,22 +120,13 @@ module _ {S A : Type 0} {held : S → Option (List A)} {items : S → Verdict �
       }
 
       front : (next : S) → AppendsFront (held now) (held next) (told (items now) s a) → AppendsFront (held before) (held next) (told (items before) s whole)
+      unfolding told
       front next is =
           let done = told (items before) s going.done in
-          let there = subst (λ o. AppendsFront o (held next) (told (items before) s a)) appended (subst (λ t. AppendsFront (held now) (held next) (told t s a)) going.same_items is) in
+          let there = subst (λ o. AppendsFront o (held next) (told (items before) s a)) going.appended (subst (λ t. AppendsFront (held now) (held next) (told t s a)) going.same_items is) in
           let two = front-of_second (held before) (held next) done (told (items before) s a) there in
           let all = front-of_first (held before) (held next) (done ++ told (items before) s a) (told (items before) s rest) two in
           subst (AppendsFront (held before) (held next)) whole_is all
-        where
-          appended : held now ≡ with_after (held before) (told (items before) s going.done)
-          unfolding told
-          appended = going.appended
-
-          whole_is : (told (items before) s going.done ++ told (items before) s a) ++ told (items before) s rest ≡ told (items before) s whole
-          whole_is =
-              ap (λ xs. xs ++ told (items before) s rest) (sym (told-append (items before) s going.done a))
-              ∙ sym (told-append (items before) s (going.done ++ a) rest)
-              ∙ ap (told (items before) s) parts
 
       pub stopped : {T R : Type 0} (next : S) (error : CheckError) → Gives held items takes faults now next (chosen s a) (Err {T = T} error) → Gives held items takes faults before next (chosen s whole) (Err {T = R} error)
       unfolding told

@@ -2,3 +2,4 @@ mod Clean
 mod Giving
 mod Ordinals
 mod Seeking
+mod Sizes
