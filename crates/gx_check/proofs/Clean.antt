@@ -164,12 +164,12 @@ module _ (h : Hierarchy) (tree : IsTree h) where
   -- ---- no verdict refutes a clean hierarchy
   module _ (clean : IsClean h) (v : ℕ) (below : v < length h.volumes) where
     daughter_unrefuted : (k : ℕ) → k < length (instances h v) → Unrefuted (daughter_verdict v (solid_vertices h v) (placed_daughters h v) k)
-    unfolding Unrefuted nth
+    unfolding Unrefuted nth daughter_verdict
     daughter_unrefuted k less =
         rw (nth-placed v k less, (contained_where v below (nth v k) (nth-body v k less)).0 (clean.contained v below k nothing less)) refl
 
     pair_unrefuted : (i j : ℕ) → i < j → j < length (instances h v) → Unrefuted (pair_verdict v (placed_daughters h v) i j)
-    unfolding Unrefuted nth
+    unfolding Unrefuted nth pair_verdict
     pair_unrefuted i j less within =
         let first : i < length (instances h v) = omega arith in
         by_plane v i j _ _ (subst IsParted (sym (nth-between v i j first within)) ((disjoint_where (nth v i) (nth v j) (nth-body v i first) (nth-body v j within)).0 (clean.disjoint v below i j nothing less within)))
@@ -197,7 +197,7 @@ module _ (h : Hierarchy) (tree : IsTree h) where
     passes x among = find-none refutes (verdicts h) x none (Contains-flat_map (verdicts_in h) (range_with_len 0 (length h.volumes)) v x (Contains-range 0 (length h.volumes) v (omega arith) (omega arith)) among)
 
     contained_at : (k : ℕ) → k < length (instances h v) → IsContainedIn h v (nth v k)
-    unfolding Unrefuted
+    unfolding Unrefuted daughter_verdict
     contained_at k less =
         let count : length (placed_daughters h v) ≡ length (instances h v) = length-map (instances h v) (placed_vertices h) in
         let ds = placed_daughters h v in
@@ -206,7 +206,7 @@ module _ (h : Hierarchy) (tree : IsTree h) where
         (contained_where v below (nth v k) (nth-body v k less)).1 (ap (first_outside (solid_vertices h v)) (sym (nth-placed v k less)) ∙ none)
 
     disjoint_at : (i j : ℕ) → i < j → j < length (instances h v) → AreDisjoint h (nth v i) (nth v j)
-    unfolding Unrefuted
+    unfolding Unrefuted pair_verdict
     disjoint_at i j less within =
         let count : length (placed_daughters h v) ≡ length (instances h v) = length-map (instances h v) (placed_vertices h) in
         let ds = placed_daughters h v in

@@ -1,5 +1,6 @@
 mod Clean
 mod Giving
 mod Ordinals
+mod Placed
 mod Seeking
 mod Sizes

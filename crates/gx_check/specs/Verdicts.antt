@@ -41,11 +41,11 @@ parted mother first second (Some plane) points = Apart mother first second plane
 parted mother first second None points = Overlap mother first second points
 
 -- a daughter against her mother, by the first of her vertices that is outside; the lists are the vertices of the mother and of each daughter
-abbrev pub daughter_verdict : ℕ → List V3 → List (List V3) → ℕ → Verdict
+unfoldable pub daughter_verdict : ℕ → List V3 → List (List V3) → ℕ → Verdict
 daughter_verdict mother outer daughters k = contained mother k (first_outside outer (slice_index_or daughters k []))
 
 -- two daughters, by the first plane between them, else by their common points
-abbrev pub pair_verdict : ℕ → List (List V3) → ℕ → ℕ → Verdict
+unfoldable pub pair_verdict : ℕ → List (List V3) → ℕ → ℕ → Verdict
 pair_verdict mother daughters i j =
     let a = slice_index_or daughters i [] in
     let b = slice_index_or daughters j [] in

@@ -1,12 +1,12 @@
-ghost use Rattle.std.specs.Prelude.{◌≡◌, ◌<◌, ◌≤◌, [], length, slice_index_or, IsTrue, IfOk, IsSome};
-ghost use Rattle.gx_separate.specs.Between.{first_between};
-ghost use Rattle.gx_common.specs.Reached.{are_extents_apart, is_any_at_most as is_any_at_most_of};
+ghost use Rattle.std.specs.Prelude.{◌≡◌, ◌<◌, ◌≤◌, [], length, slice_index_or, IsTrue, IfOk};
 ghost use Rattle.gx_hull.specs.Hull.{IsVertices};
 ghost use Rattle.gx_tree.specs.Hierarchy.{instances};
+ghost use Rattle.gx_check.specs.Kept.{AreParted};
 ghost use Rattle.gx_check.specs.Verdicts.{placed_daughters};
 
+use gx_common::are_apart;
 use gx_hull::Hull;
-use gx_num::{Extent, NoMemory, V3};
+use gx_num::{Extent, NoMemory};
 use gx_tree::Hierarchy;
 use std::alloc::Global;
 use std::marker::Model;
@@ -20,23 +20,23 @@ pub struct Daughters {
 }
 
 impl Model for Daughters {
-    ghost use Rattle.std.specs.Prelude.{◌≡◌, ◌≤◌, List, All, length, map};
+    ghost use Rattle.std.specs.Prelude.{List};
     ghost use Rattle.gx_num.specs.declared.vector.V3.{V3 as Point};
-    ghost use Rattle.gx_convex.specs.Extent.{extent_of};
-    ghost use Rattle.gx_hull.specs.Hull.{IsVertices};
+    ghost use Rattle.gx_check.specs.Kept.{AreKept};
 
     ghost Value = { List (List Point) };
 
     ghost view = { λ d. d.hulls.items };
 
-    ghost invariant = { λ d. (length d.hulls.items ≤ 4096) × All IsVertices d.hulls.items × (d.extents.items ≡ map extent_of d.hulls.items) };
+    ghost invariant = { λ d. AreKept d.hulls.items d.extents.items };
 }
 
 impl Daughters {
     /// Those of a volume, each placed once.
     pub fn placed(alloc: Global, tree: &Hierarchy, mother: u32) -> Result<Daughters, NoMemory>
         requires { mother < length tree.now.volumes }
-        ensures { IfOk result (λ daughters. daughters ≡ placed_daughters tree.now mother) }
+        ensures value { IfOk result (λ daughters. daughters ≡ placed_daughters tree.now mother) }
+        ensures few { IfOk result (λ daughters. length daughters ≤ 4096) }
     {
         let count = tree.instances(mother) as usize;
         let mut hulls = Vec::with_capacity(alloc, count)?;
@@ -68,7 +68,7 @@ impl Daughters {
     pub fn are_apart(&self, first: u32, second: u32) -> bool
         requires first { first < length self.now }
         requires second { second < length self.now }
-        ensures { IsTrue result → IsSome (first_between (slice_index_or self.now first []) (slice_index_or self.now second [])) }
+        ensures { IsTrue result → AreParted self.now first second }
     {
         are_apart(self.extents[first as usize], self.extents[second as usize])
     }
@@ -89,26 +89,4 @@ fn placed(alloc: Global, tree: &Hierarchy, mother: u32, ordinal: u32) -> Result<
     // What each hull keeps is known from here on.
     let _ = hull.vertices();
     Ok(hull)
-}
-
-// On some axis the one ends where the other begins, or before.
-fn are_apart(a: Extent, b: Extent) -> bool
-    ensures { result ≡ are_extents_apart a b }
-{
-    if is_any_at_most(a.high, b.low) {
-        return true;
-    }
-    is_any_at_most(b.high, a.low)
-}
-
-fn is_any_at_most(p: V3, q: V3) -> bool
-    ensures { result ≡ is_any_at_most_of p q }
-{
-    if p.x <= q.x {
-        return true;
-    }
-    if p.y <= q.y {
-        return true;
-    }
-    p.z <= q.z
 }
