@@ -175,6 +175,7 @@ module _ (h : Hierarchy) (tree : IsTree h) where
         by_plane v i j _ _ (subst IsParted (sym (nth-between v i j first within)) ((disjoint_where (nth v i) (nth v j) (nth-body v i first) (nth-body v j within)).0 (clean.disjoint v below i j nothing less within)))
 
     mother_unrefuted : All Unrefuted (verdicts_in h v)
+    unfolding verdicts_in daughter_verdicts pair_verdicts verdicts_with
     mother_unrefuted =
         let count : length (placed_daughters h v) ≡ length (instances h v) = length-map (instances h v) (placed_vertices h) in
         let ds = placed_daughters h v in
@@ -197,7 +198,7 @@ module _ (h : Hierarchy) (tree : IsTree h) where
     passes x among = find-none refutes (verdicts h) x none (Contains-flat_map (verdicts_in h) (range_with_len 0 (length h.volumes)) v x (Contains-range 0 (length h.volumes) v (omega arith) (omega arith)) among)
 
     contained_at : (k : ℕ) → k < length (instances h v) → IsContainedIn h v (nth v k)
-    unfolding Unrefuted daughter_verdict
+    unfolding Unrefuted daughter_verdict daughter_verdicts verdicts_in
     contained_at k less =
         let count : length (placed_daughters h v) ≡ length (instances h v) = length-map (instances h v) (placed_vertices h) in
         let ds = placed_daughters h v in
@@ -206,7 +207,7 @@ module _ (h : Hierarchy) (tree : IsTree h) where
         (contained_where v below (nth v k) (nth-body v k less)).1 (ap (first_outside (solid_vertices h v)) (sym (nth-placed v k less)) ∙ none)
 
     disjoint_at : (i j : ℕ) → i < j → j < length (instances h v) → AreDisjoint h (nth v i) (nth v j)
-    unfolding Unrefuted pair_verdict
+    unfolding Unrefuted pair_verdict verdicts_with pair_verdicts verdicts_in
     disjoint_at i j less within =
         let count : length (placed_daughters h v) ≡ length (instances h v) = length-map (instances h v) (placed_vertices h) in
         let ds = placed_daughters h v in

@@ -1,5 +1,5 @@
 -- Verdicts given one after another: what was given so far, and what is left.
-use Rattle.std.proofs.Common.{◌≡◌, ℕ, ◌+◌, ◌^◌, ◌≤◌, Bool, true, List, [], ◌++◌, length, Option, Result, Ok, Err, All, IsTrue, refl, sym, ap, ◌∙◌, subst, arith, append_assoc, append-nil, length-append, cond, not}
+use Rattle.std.proofs.Common.{◌≡◌, ℕ, ◌+◌, ◌^◌, ◌≤◌, Bool, true, List, [], ◌∷◌, ◌++◌, length, Option, Result, Ok, Err, All, IsTrue, refl, sym, ap, ◌∙◌, subst, arith, append_assoc, append-nil, length-append, cond, not}
 use Rattle.std.specs.Prelude.{flat_map, count_by}
 use Rattle.std.proofs.lemmas.List.Concat.{flat_map-append}
 use Rattle.std.proofs.lemmas.List.Elements.{filter-append}
@@ -69,11 +69,21 @@ module _ {S A : Type 0} {held : S → Option (List A)} {items : S → Verdict �
       nothing selection.All = refl
       nothing selection.Refuting = refl
 
+  -- want of memory before the first
+  pub given_nothing : {T : Type 0} (before : S) (given : List Verdict) → Gives {T = T} held items takes faults before before given (Err NoMemory)
+  given_nothing before given = record {
+    appended = record { all = tt; front = front-nothing (held before) (flat_map (items before) given) };
+    same_items = refl;
+    same_takes = refl;
+    kept = tt;
+    cause = refl;
+  }
+
   module _ {before now : S} {s : Selection} {whole left : List Verdict} {counts : Counts} (going : Going held items takes faults before now s whole left counts) where
     few : length whole ≤ 2 ^ 62 → IsFew counts
     few le = subst IsFew (sym going.counted) (few_counts going.done (omega (arith, length-append going.done left, ap length going.parts)))
 
-    pub ended : {T : Type 0} (t : T) → left ≡ [] → Gives held items takes faults before now (chosen s whole) (Ok {E = CheckError} t) × (counts ≡ counts_of whole)
+    pub ended : {T : Type 0} (t : T) → left ≡ [] → Gives held items takes faults before now (chosen s whole) (Ok t) × (counts ≡ counts_of whole)
     ended t none =
         let all : going.done ≡ whole = sym (append-nil going.done) ∙ ap (λ xs. going.done ++ xs) (sym none) ∙ going.parts in
         (record {
@@ -103,7 +113,7 @@ module _ {S A : Type 0} {held : S → Option (List A)} {items : S → Verdict �
           ∙ sym (told-append (items before) s (going.done ++ a) rest)
           ∙ ap (told (items before) s) parts
 
-      pub more : {T : Type 0} {t : T} (next : S) (counts_more counts_next : Counts) → Gives held items takes faults now next (chosen s a) (Ok {E = CheckError} t) → counts_more ≡ counts_of a → counts_next ≡ plus counts counts_more → Going held items takes faults before next s whole rest counts_next
+      pub more : {T : Type 0} {t : T} (next : S) (counts_more counts_next : Counts) → Gives held items takes faults now next (chosen s a) (Ok t) → counts_more ≡ counts_of a → counts_next ≡ plus counts counts_more → Going held items takes faults before next s whole rest counts_next
       unfolding told
       more next counts_more counts_next gives e f = record {
         done = going.done ++ a;
@@ -128,7 +138,7 @@ module _ {S A : Type 0} {held : S → Option (List A)} {items : S → Verdict �
           let all = front-of_first (held before) (held next) (done ++ told (items before) s a) (told (items before) s rest) two in
           subst (AppendsFront (held before) (held next)) whole_is all
 
-      pub stopped : {T R : Type 0} (next : S) (error : CheckError) → Gives held items takes faults now next (chosen s a) (Err {T = T} error) → Gives held items takes faults before next (chosen s whole) (Err {T = R} error)
+      pub stopped : {T R : Type 0} (next : S) (error : CheckError) → Gives {T = T} held items takes faults now next (chosen s a) (Err error) → Gives {T = R} held items takes faults before next (chosen s whole) (Err error)
       unfolding told
       stopped next error gives = record {
         appended = record { all = tt; front = front next gives.appended.front };
@@ -138,11 +148,26 @@ module _ {S A : Type 0} {held : S → Option (List A)} {items : S → Verdict �
         cause = subst (λ n. IsCheckCause n (faults next) error) going.kept gives.cause;
       }
 
-    pub wanting : {T : Type 0} → Gives held items takes faults before now (chosen s whole) (Err {T = T} NoMemory)
-    wanting = stopped [] left refl now NoMemory (record {
-      appended = record { all = tt; front = front-nothing (held now) (told (items now) s []) };
+    pub wanting : {T : Type 0} → Gives {T = T} held items takes faults before now (chosen s whole) (Err NoMemory)
+    wanting {T} = stopped [] left refl {T = T} {R = T} now NoMemory (given_nothing now (chosen s []))
+
+  -- ---- one verdict
+  module _ {T : Type 0} (t : T) (s : Selection) (v : Verdict) (before : S) where
+    pub given_none : chosen s (v ∷ []) ≡ [] → Gives held items takes faults before before (chosen s (v ∷ [])) (Ok t)
+    given_none none = record {
+      appended = record { all = sym (with_after-nothing (held before)) ∙ ap (λ xs. with_after (held before) (flat_map (items before) xs)) (sym none); front = tt };
       same_items = refl;
       same_takes = refl;
-      kept = tt;
-      cause = refl;
-    })
+      kept = refl;
+      cause = tt;
+    }
+
+    pub given_one : (now : S) → chosen s (v ∷ []) ≡ v ∷ [] → held now ≡ with_after (held before) (items before v) → items now ≡ items before → takes now ≡ takes before → faults now ≡ faults before
+        → Gives held items takes faults before now (chosen s (v ∷ [])) (Ok t)
+    given_one now one appended same_items same_takes kept = record {
+      appended = record { all = appended ∙ ap (with_after (held before)) (sym (append-nil (items before v))) ∙ ap (λ xs. with_after (held before) (flat_map (items before) xs)) (sym one); front = tt };
+      same_items = same_items;
+      same_takes = same_takes;
+      kept = kept;
+      cause = tt;
+    }

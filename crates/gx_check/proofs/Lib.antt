@@ -1,6 +1,7 @@
 mod Clean
 mod Giving
-mod Ordinals
+mod Judged
+mod Left
 mod Placed
 mod Seeking
 mod Sizes

@@ -56,19 +56,19 @@ abbrev pub ordinals_from : ℕ → List (List V3) → List ℕ
 ordinals_from k daughters = range_with_len k (length daughters - k)
 
 -- each daughter
-abbrev pub daughter_verdicts : ℕ → List V3 → List (List V3) → List Verdict
+unfoldable pub daughter_verdicts : ℕ → List V3 → List (List V3) → List Verdict
 daughter_verdicts mother outer daughters = map (daughter_verdict mother outer daughters) (ordinals_from 0 daughters)
 
 -- one daughter with each later one
-abbrev pub verdicts_with : ℕ → List (List V3) → ℕ → List Verdict
+unfoldable pub verdicts_with : ℕ → List (List V3) → ℕ → List Verdict
 verdicts_with mother daughters i = map (pair_verdict mother daughters i) (ordinals_from (i + 1) daughters)
 
 -- each daughter with each later one
-abbrev pub pair_verdicts : ℕ → List (List V3) → List Verdict
+unfoldable pub pair_verdicts : ℕ → List (List V3) → List Verdict
 pair_verdicts mother daughters = flat_map (verdicts_with mother daughters) (ordinals_from 0 daughters)
 
 -- in one mother: each daughter, then each pair
-abbrev pub verdicts_in : Hierarchy → ℕ → List Verdict
+unfoldable pub verdicts_in : Hierarchy → ℕ → List Verdict
 verdicts_in h v = daughter_verdicts v (solid_vertices h v) (placed_daughters h v) ++ pair_verdicts v (placed_daughters h v)
 
 -- in each volume, in their order

@@ -116,9 +116,10 @@ fn check_with<V: Verdicts>(
     ensures gives { Gives V.held V.items V.takes V.faults out.old out.new (chosen selection (verdicts_with mother daughters.now first)) result }
     ensures counts { IfOk result (λ counts. counts ≡ counts_of (verdicts_with mother daughters.now first)) }
 {
+    let count = daughters.count();
     let mut counts = Counts::none();
-    for second in first + 1..daughters.count() {
-        if selection == Selection::Refuting {
+    for second in first + 1..count {
+        if selection.is_refuting() {
             if daughters.are_apart(first, second) {
                 counts = counts.plus(Counts::pair());
                 continue;
@@ -155,7 +156,7 @@ fn check_pair<V: Verdicts>(
         };
         return give(&overlap, selection, out);
     }
-    if selection == Selection::Refuting {
+    if selection.is_refuting() {
         return Ok(Counts::pair());
     }
     let apart = Verdict::Apart {

@@ -78,7 +78,8 @@ fn first_overlap_with(
     requires { first < length daughters.now }
     ensures { IfOk result (λ found. found ≡ find refutes (verdicts_with mother daughters.now first)) }
 {
-    for second in first + 1..daughters.count() {
+    let count = daughters.count();
+    for second in first + 1..count {
         if daughters.are_apart(first, second) {
             continue;
         }

@@ -1,4 +1,4 @@
-ghost use Rattle.std.specs.Prelude.{◌≡◌, [], ◌∷◌, if◌then◌else◌};
+ghost use Rattle.std.specs.Prelude.{◌≡◌, [], ◌∷◌, IsTrue, if◌then◌else◌};
 ghost use Rattle.gx_check.specs.Verdicts.{chosen};
 
 use crate::Verdict;
@@ -19,6 +19,16 @@ impl Selection {
         match self {
             Selection::All => true,
             Selection::Refuting => verdict.refutes(),
+        }
+    }
+
+    // Only verdicts that refute are given.
+    pub(crate) fn is_refuting(self) -> bool
+        ensures { IsTrue result → self ≡ Selection.Refuting }
+    {
+        match self {
+            Selection::All => false,
+            Selection::Refuting => true,
         }
     }
 }
