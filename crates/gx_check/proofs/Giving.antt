@@ -21,14 +21,14 @@ chosen-append : (s : Selection) (a b : List Verdict) → chosen s (a ++ b) ≡ c
 chosen-append selection.All a b = refl
 chosen-append selection.Refuting a b = filter-append refutes a b
 
-counts_of-append : (a b : List Verdict) → counts_of (a ++ b) ≡ plus (counts_of a) (counts_of b)
+pub counts_of-append : (a b : List Verdict) → counts_of (a ++ b) ≡ plus (counts_of a) (counts_of b)
 counts_of-append a b =
     let daughters = sum_by-append (λ v. cond (is_of_daughter v) 1 0) a b in
     let pairs = sum_by-append (λ v. cond (not (is_of_daughter v)) 1 0) a b in
     let refuted = sum_by-append (λ v. cond (refutes v) 1 0) a b in
     λ i. record { daughters = daughters i; pairs = pairs i; refuted = refuted i }
 
-few_counts : (a : List Verdict) → length a ≤ 2 ^ 62 → IsFew (counts_of a)
+pub few_counts : (a : List Verdict) → length a ≤ 2 ^ 62 → IsFew (counts_of a)
 few_counts a few = record {
   daughters = omega (arith, count_by-le-length is_of_daughter a);
   pairs = omega (arith, count_by-le-length (λ v. not (is_of_daughter v)) a);

@@ -5,7 +5,7 @@ use Rattle.std.specs.List.{range_with_len}
 use Rattle.gx_num.specs.declared.vector.V3.{V3}
 use Rattle.gx_tree.specs.Hierarchy.{Hierarchy}
 use Rattle.gx_check.specs.declared.verdict.Verdict.{Verdict}
-use Rattle.gx_check.specs.Verdicts.{daughter_verdict, pair_verdict, daughter_verdicts, verdicts_with, pair_verdicts, verdicts_in, verdicts}
+use Rattle.gx_check.specs.Verdicts.{solid_vertices, placed_daughters, daughter_verdict, pair_verdict, daughter_verdicts, verdicts_with, pair_verdicts, verdicts_in, verdicts}
 
 range_next : (k n : ℕ) → k < n → range_with_len k (n - k) ≡ k ∷ range_with_len (k + 1) (n - (k + 1))
 range_next k n less = let next : n - k ≡ suc (n - (k + 1)) = omega arith in ap (range_with_len k) next
@@ -63,9 +63,9 @@ module _ (mother : ℕ) (ds : List (List V3)) where
   unfolding with_left each_from verdicts_with
   with_all i = refl
 
-  pub with_next : (i k : ℕ) → k < length ds → with_left i k ≡ (pair_verdict mother ds i k ∷ []) ++ with_left i (k + 1)
+  pub with_next : (i k : ℕ) (x : Verdict) → k < length ds → x ≡ pair_verdict mother ds i k → with_left i k ≡ (x ∷ []) ++ with_left i (k + 1)
   unfolding with_left
-  with_next i k less = each_next (pair_verdict mother ds i) (length ds) k (pair_verdict mother ds i k) less refl
+  with_next i k x less is = each_next (pair_verdict mother ds i) (length ds) k x less is
 
   pub with_end : (i k : ℕ) → length ds ≤ k → with_left i k ≡ []
   unfolding with_left
@@ -85,6 +85,11 @@ module _ (mother : ℕ) (ds : List (List V3)) where
   pub pairs_end : (k : ℕ) → length ds ≤ k → pairs_left k ≡ []
   unfolding pairs_left
   pairs_end k le = parts_end (verdicts_with mother ds) (length ds) k le
+
+-- ---- of a mother
+pub in_parts : (h : Hierarchy) (v : ℕ) (outer : List V3) (ds : List (List V3)) → outer ≡ solid_vertices h v → ds ≡ placed_daughters h v → daughter_verdicts v outer ds ++ pair_verdicts v ds ≡ verdicts_in h v
+unfolding verdicts_in
+in_parts h v outer ds e f = λ i. daughter_verdicts v (e i) (f i) ++ pair_verdicts v (f i)
 
 -- ---- of mothers
 module _ (h : Hierarchy) where
