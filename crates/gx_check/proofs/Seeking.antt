@@ -1,6 +1,6 @@
 -- The first verdict that refutes, sought part by part.
 use Rattle.std.proofs.Common.{◌≡◌, ◌↔◌, true, false, true≢false, List, [], ◌++◌, find, Option, Some, None, refl, sym, ap, ◌∙◌}
-use Rattle.std.specs.Option.{option_or, is_some, is_none, IsNone}
+use Rattle.std.specs.Option.{option_or, is_some, IsNone}
 use Rattle.std.proofs.lemmas.List.Folds.{find-append}
 use Rattle.gx_tree.specs.Hierarchy.{Hierarchy}
 use Rattle.gx_tree.specs.Fault.{IsTree}
@@ -34,11 +34,11 @@ module _ {whole left : List Verdict} (seeking : Seeking whole left) where
 
 -- none exactly where the hierarchy is clean
 pub none_clean : (h : Hierarchy) → IsTree h → (found : Option Verdict) → found ≡ find refutes (verdicts h) → IsNone found ↔ IsClean h
-none_clean h tree found e = (λ none. law.1 (sym e ∙ is found none), λ clean. ap (λ (o : Option Verdict). is_none o) (e ∙ law.0 clean))
+none_clean h tree found e = (λ none. law.1 (sym e ∙ is found none), λ clean. ap (λ (o : Option Verdict). is_some o) (e ∙ law.0 clean))
   where
     law : IsClean h ↔ (find refutes (verdicts h) ≡ None)
     law = clean_where_unrefuted h tree
 
     is : (o : Option Verdict) → IsNone o → o ≡ None
     is None none = refl
-    is (Some x) none = absurd (true≢false (sym none))
+    is (Some x) none = absurd (true≢false none)
