@@ -111,8 +111,7 @@ module _ (h : Hierarchy) (tree : IsTree h) where
       let outer = solid_vertices h v in
       let inner = placed_vertices h i in
       let own = same_solid v below in
-      let law = containment (faces_of outer) (faces_of inner) outer inner (is_solid v below) (own_hull outer (is_solid v below)) (own_hull inner is.solid) in
-      (
+      let law = containment (faces_of outer) (faces_of inner) outer inner (is_solid v below) (own_hull outer (is_solid v below)) (own_hull inner is.solid) in (
         λ all. law.1 (λ p w e. sym (own.same_in p w) ∙ all p w (sym (is.same_in p w) ∙ e)),
         λ none p w e. own.same_in p w ∙ law.0 none p w (is.same_in p w ∙ e),
       )

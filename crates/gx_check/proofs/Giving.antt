@@ -85,14 +85,16 @@ module _ {S A : Type 0} {held : S → Option (List A)} {items : S → Verdict �
 
     pub ended : {T : Type 0} (t : T) → left ≡ [] → Gives held items takes faults before now (chosen s whole) (Ok t) × (counts ≡ counts_of whole)
     ended t none =
-        let all : going.done ≡ whole = sym (append-nil going.done) ∙ ap (λ xs. going.done ++ xs) (sym none) ∙ going.parts in
-        (record {
-          appended = record { all = going.appended ∙ ap (λ xs. with_after (held before) (flat_map (items before) (chosen s xs))) all; front = tt };
-          same_items = going.same_items;
-          same_takes = going.same_takes;
-          kept = going.kept;
-          cause = tt;
-        }, going.counted ∙ ap counts_of all)
+        let all : going.done ≡ whole = sym (append-nil going.done) ∙ ap (λ xs. going.done ++ xs) (sym none) ∙ going.parts in (
+          record {
+            appended = record { all = going.appended ∙ ap (λ xs. with_after (held before) (flat_map (items before) (chosen s xs))) all; front = tt };
+            same_items = going.same_items;
+            same_takes = going.same_takes;
+            kept = going.kept;
+            cause = tt;
+          },
+          going.counted ∙ ap counts_of all,
+        )
 
     -- the next ones
     module _ (a rest : List Verdict) (split : left ≡ a ++ rest) where

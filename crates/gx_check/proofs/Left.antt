@@ -3,9 +3,12 @@ use Rattle.std.proofs.Common.{◌≡◌, ℕ, suc, ◌+◌, ◌-◌, ◌<◌, �
 use Rattle.std.specs.Prelude.{flat_map}
 use Rattle.std.specs.List.{range_with_len}
 use Rattle.gx_num.specs.declared.vector.V3.{V3}
-use Rattle.gx_tree.specs.Hierarchy.{Hierarchy}
+use Rattle.gx_convex.specs.Points.{distinct}
+use Rattle.gx_shapes.specs.declared.figure.Figure.{Figure}
+use Rattle.gx_shapes.specs.Solid.{vertices_of}
+use Rattle.gx_tree.specs.Hierarchy.{Hierarchy, volume_at}
 use Rattle.gx_check.specs.declared.verdict.Verdict.{Verdict}
-use Rattle.gx_check.specs.Verdicts.{solid_vertices, placed_daughters, daughter_verdict, pair_verdict, daughter_verdicts, verdicts_with, pair_verdicts, verdicts_in, verdicts}
+use Rattle.gx_check.specs.Verdicts.{placed_daughters, daughter_verdict, pair_verdict, daughter_verdicts, verdicts_with, pair_verdicts, verdicts_in, verdicts}
 
 range_next : (k n : ℕ) → k < n → range_with_len k (n - k) ≡ k ∷ range_with_len (k + 1) (n - (k + 1))
 range_next k n less = let next : n - k ≡ suc (n - (k + 1)) = omega arith in ap (range_with_len k) next
@@ -87,9 +90,12 @@ module _ (mother : ℕ) (ds : List (List V3)) where
   pairs_end k le = parts_end (verdicts_with mother ds) (length ds) k le
 
 -- ---- of a mother
-pub in_parts : (h : Hierarchy) (v : ℕ) (outer : List V3) (ds : List (List V3)) → outer ≡ solid_vertices h v → ds ≡ placed_daughters h v → daughter_verdicts v outer ds ++ pair_verdicts v ds ≡ verdicts_in h v
+pub in_parts : (h : Hierarchy) (v : ℕ) (figure : Figure) (outer : List V3) (ds : List (List V3)) → figure ≡ (volume_at h.volumes v).solid → outer ≡ distinct (vertices_of figure) → ds ≡ placed_daughters h v
+    → daughter_verdicts v outer ds ++ pair_verdicts v ds ≡ verdicts_in h v
 unfolding verdicts_in
-in_parts h v outer ds e f = λ i. daughter_verdicts v (e i) (f i) ++ pair_verdicts v (f i)
+in_parts h v figure outer ds is of placed =
+    let same = of ∙ ap (λ (f : Figure). distinct (vertices_of f)) is in
+    λ i. daughter_verdicts v (same i) (placed i) ++ pair_verdicts v (placed i)
 
 -- ---- of mothers
 module _ (h : Hierarchy) where

@@ -1,13 +1,13 @@
 ghost use Rattle.std.specs.Prelude.{[], true, None};
 
-use crate::{CheckError, Counts, Selection, Verdict, Verdicts, check_tree, first_refuted};
+use crate::{CheckError, Selection, Verdict, Verdicts, check_tree, first_refuted};
 use gx_io::Failed;
 use gx_num::V3;
-use gx_rotation::{Rotation, from_angles3};
+use gx_rotation::from_angles3;
 use gx_shapes::SolidKind;
 use gx_solids::solid;
 use gx_tree::{Hierarchy, Placement, Volume, are_within_limits};
-use std::alloc::Global;
+use std::alloc::{AllocError, Global};
 use std::test::Fail;
 
 // Takes so many verdicts, as words.
@@ -53,18 +53,18 @@ impl Verdicts for Words {
     }
 }
 
-fn write(alloc: Global, text: &mut String, verdict: &Verdict) -> Result<(), Fail> {
+fn write(alloc: Global, text: &mut String, verdict: &Verdict) -> Result<(), AllocError> {
     match verdict {
         Verdict::Inner { mother, ordinal } => {
-            text.push_str(&format!(in alloc; "in {} {}; ", mother, ordinal)?)?
+            text.push_str(&format!(in alloc; "in {mother} {ordinal}; ")?)
         }
         Verdict::Outer {
             mother,
             ordinal,
             point,
         } => text.push_str(
-            &format!(in alloc; "out {} {} {} {} {}; ", mother, ordinal, point.x, point.y, point.z)?,
-        )?,
+            &format!(in alloc; "out {mother} {ordinal} {} {} {}; ", point.x, point.y, point.z)?,
+        ),
         Verdict::Apart {
             mother,
             first,
@@ -72,9 +72,9 @@ fn write(alloc: Global, text: &mut String, verdict: &Verdict) -> Result<(), Fail
             plane,
         } => {
             let n = plane.n();
-            text.push_str(
-                &format!(in alloc; "apart {} {} {} {} {} {} {}; ", mother, first, second, n.x, n.y, n.z, plane.e())?,
-            )?
+            text.push_str(&format!(in alloc;
+                "apart {mother} {first} {second} {} {} {} {}; ", n.x, n.y, n.z, plane.e()
+            )?)
         }
         Verdict::Overlap {
             mother,
@@ -82,56 +82,81 @@ fn write(alloc: Global, text: &mut String, verdict: &Verdict) -> Result<(), Fail
             second,
             points,
         } => {
-            text.push_str(&format!(in alloc; "overlap {} {} {}", mother, first, second)?)?;
+            text.push_str(&format!(in alloc; "overlap {mother} {first} {second}")?)?;
             for i in 0..points.count() {
                 let p = points.at(i);
                 text.push_str(&format!(in alloc; " {}:{}:{}:{}", p.x(), p.y(), p.z(), p.w())?)?;
             }
-            text.push_str("; ")?
+            text.push_str("; ")
         }
     }
-    Ok(())
 }
 
-fn volume(
-    alloc: Global,
-    kind: SolidKind,
-    values: &[i64],
-    placements: &[Placement],
-) -> Result<Volume, Fail> {
+// A volume that is placed, how often it is turned by a quarter about x, and where.
+type Place = (u32, u8, i64, i64, i64);
+
+// A kind with its values, and what is placed in it.
+type Body<'a> = (SolidKind, &'a [i64], &'a [Place]);
+
+fn placement(place: Place) -> Result<Placement, Fail> {
+    let (volume, turns, x, y, z) = place;
+    Ok(Placement::Single {
+        volume,
+        copy: 0,
+        rotation: from_angles3([Some(turns), Some(0), Some(0)])
+            .ok()
+            .ok_or("a rotation")?,
+        offset: V3 { x, y, z },
+    })
+}
+
+fn volume(alloc: Global, body: &Body<'_>) -> Result<Volume, Fail> {
+    let &(kind, values, places) = body;
     if values.len() > 20 {
         return Err("too many values".into());
+    }
+    let mut placements = Vec::new(alloc);
+    for &place in places {
+        placements.push(placement(place)?)?;
     }
     Ok(Volume::new(
         Vec::from_slice(alloc, b"v")?,
         solid(alloc, kind, values).ok().ok_or("a solid")?,
         Vec::from_slice(alloc, b"Air")?,
-        Vec::from_slice(alloc, placements)?,
+        placements,
     ))
 }
 
-fn placed(volume: u32, rotation: Rotation, x: i64, y: i64, z: i64) -> Placement {
-    Placement::Single {
-        volume,
-        copy: 0,
-        rotation,
-        offset: V3 { x, y, z },
+fn hierarchy(alloc: Global, bodies: &[Body<'_>]) -> Result<Hierarchy, Fail> {
+    let mut volumes = Vec::new(alloc);
+    for body in bodies {
+        volumes.push(volume(alloc, body)?)?;
     }
-}
-
-// The volumes, each by its kind, its values and what is placed in it.
-fn hierarchy(
-    alloc: Global,
-    volumes: &[(SolidKind, &[i64], &[Placement])],
-) -> Result<Hierarchy, Fail> {
-    let mut made = Vec::new(alloc);
-    for &(kind, values, placements) in volumes {
-        made.push(volume(alloc, kind, values, placements)?)?;
-    }
-    if !are_within_limits(&made) {
+    if !are_within_limits(&volumes) {
         return Err("too much".into());
     }
-    Ok(Hierarchy::new(alloc, made).ok().ok_or("a hierarchy")?)
+    Ok(Hierarchy::new(alloc, volumes).ok().ok_or("a hierarchy")?)
+}
+
+// The selected verdicts, and the three counts.
+fn judged(alloc: Global, tree: &Hierarchy, selection: Selection) -> Result<String, Fail> {
+    let mut out = Words::new(alloc, 9);
+    let counts = check_tree(alloc, tree, selection, &mut out)
+        .ok()
+        .ok_or("counts")?;
+    let mut text = out.text;
+    text.push_str(
+        &format!(in alloc; "{} {} {}", counts.daughters, counts.pairs, counts.refuted)?,
+    )?;
+    Ok(text)
+}
+
+fn first(alloc: Global, tree: &Hierarchy) -> Result<String, Fail> {
+    let mut text = String::new(alloc);
+    if let Some(verdict) = &first_refuted(alloc, tree).ok().ok_or("memory")? {
+        write(alloc, &mut text, verdict)?;
+    }
+    Ok(text)
 }
 
 const BOX: SolidKind = SolidKind::Cuboid;
@@ -142,135 +167,82 @@ const BOX: SolidKind = SolidKind::Cuboid;
 #[test]
 fn each_daughter_and_each_pair_is_judged(rt: HostRuntime) -> Result<(), Fail> {
     let alloc = rt.alloc();
-    let r0 = Rotation::new(0);
-    let rx = from_angles3([Some(1), Some(0), Some(0)]).ok().ok_or("a rotation")?;
-    let world: &[i64] = &[20, 20, 20];
-    let cube: &[i64] = &[5, 5, 5];
-    let cases = [
+    let cases: [(&[Body<'_>], &str, &str, &str); 6] = [
         (
-            hierarchy(
-                alloc,
-                &[
-                    (
-                        BOX,
-                        world,
-                        &[placed(1, r0, -5, 0, 0), placed(1, r0, 5, 0, 0)],
-                    ),
-                    (BOX, cube, &[]),
-                ],
-            )?,
-            "in 0 0; in 0 1; apart 0 0 1 1 0 0 0; ",
+            &[
+                (BOX, &[20, 20, 20], &[(1, 0, -5, 0, 0), (1, 0, 5, 0, 0)]),
+                (BOX, &[5, 5, 5], &[]),
+            ],
+            "in 0 0; in 0 1; apart 0 0 1 1 0 0 0; 2 1 0",
+            "2 1 0",
             "",
-            None,
-            (2, 1, 0),
         ),
         (
-            hierarchy(
-                alloc,
-                &[
-                    (BOX, world, &[placed(1, r0, 0, 0, 0), placed(1, r0, 9, 0, 0)]),
-                    (BOX, cube, &[]),
-                ],
-            )?,
-            "in 0 0; in 0 1; overlap 0 0 1 5:-5:5:1 5:5:-5:1 5:-5:-5:1 4:-5:-5:1; ",
+            &[
+                (BOX, &[20, 20, 20], &[(1, 0, 0, 0, 0), (1, 0, 9, 0, 0)]),
+                (BOX, &[5, 5, 5], &[]),
+            ],
+            "in 0 0; in 0 1; overlap 0 0 1 5:-5:5:1 5:5:-5:1 5:-5:-5:1 4:-5:-5:1; 2 1 1",
+            "overlap 0 0 1 5:-5:5:1 5:5:-5:1 5:-5:-5:1 4:-5:-5:1; 2 1 1",
             "overlap 0 0 1 5:-5:5:1 5:5:-5:1 5:-5:-5:1 4:-5:-5:1; ",
-            Some("overlap 0 0 1 5:-5:5:1 5:5:-5:1 5:-5:-5:1 4:-5:-5:1; "),
-            (2, 1, 1),
         ),
         (
-            hierarchy(
-                alloc,
-                &[
-                    (BOX, world, &[placed(1, r0, 0, 0, 0), placed(2, r0, 0, 0, 0)]),
-                    (
-                        SolidKind::Tet,
-                        &[-10, 0, -10, 10, 0, 10, 0, -3, -13, 0, 3, -7],
-                        &[],
-                    ),
-                    (
-                        SolidKind::Tet,
-                        &[0, -10, -9, 0, 10, 11, -3, 0, 8, 3, 0, 14],
-                        &[],
-                    ),
-                ],
-            )?,
-            "in 0 0; in 0 1; apart 0 0 1 -10 -9 10 0; ",
+            &[
+                (BOX, &[20, 20, 20], &[(1, 0, 0, 0, 0), (2, 0, 0, 0, 0)]),
+                (
+                    SolidKind::Tet,
+                    &[-10, 0, -10, 10, 0, 10, 0, -3, -13, 0, 3, -7],
+                    &[],
+                ),
+                (
+                    SolidKind::Tet,
+                    &[0, -10, -9, 0, 10, 11, -3, 0, 8, 3, 0, 14],
+                    &[],
+                ),
+            ],
+            "in 0 0; in 0 1; apart 0 0 1 -10 -9 10 0; 2 1 0",
+            "2 1 0",
             "",
-            None,
-            (2, 1, 0),
         ),
         (
-            hierarchy(
-                alloc,
-                &[
-                    (BOX, world, &[placed(1, rx, 0, 11, 0)]),
-                    (SolidKind::Trd, &[5, 8, 5, 5, 10], &[]),
-                ],
-            )?,
+            &[
+                (BOX, &[20, 20, 20], &[(1, 1, 0, 11, 0)]),
+                (SolidKind::Trd, &[5, 8, 5, 5, 10], &[]),
+            ],
+            "out 0 0 -8 21 5; 1 0 1",
+            "out 0 0 -8 21 5; 1 0 1",
             "out 0 0 -8 21 5; ",
-            "out 0 0 -8 21 5; ",
-            Some("out 0 0 -8 21 5; "),
-            (1, 0, 1),
         ),
         (
-            hierarchy(
-                alloc,
-                &[
-                    (BOX, world, &[placed(1, r0, 0, 0, 0), placed(2, r0, 0, 0, 0)]),
-                    (BOX, &[6, 1, 1], &[]),
-                    (BOX, &[1, 6, 1], &[]),
-                ],
-            )?,
-            "in 0 0; in 0 1; overlap 0 0 1 -6:-6:-1:6 -6:-1:-6:6 -1:-1:-1:1 1:-1:-1:1; ",
+            &[
+                (BOX, &[20, 20, 20], &[(1, 0, 0, 0, 0), (2, 0, 0, 0, 0)]),
+                (BOX, &[6, 1, 1], &[]),
+                (BOX, &[1, 6, 1], &[]),
+            ],
+            "in 0 0; in 0 1; overlap 0 0 1 -6:-6:-1:6 -6:-1:-6:6 -1:-1:-1:1 1:-1:-1:1; 2 1 1",
+            "overlap 0 0 1 -6:-6:-1:6 -6:-1:-6:6 -1:-1:-1:1 1:-1:-1:1; 2 1 1",
             "overlap 0 0 1 -6:-6:-1:6 -6:-1:-6:6 -1:-1:-1:1 1:-1:-1:1; ",
-            Some("overlap 0 0 1 -6:-6:-1:6 -6:-1:-6:6 -1:-1:-1:1 1:-1:-1:1; "),
-            (2, 1, 1),
         ),
         (
-            hierarchy(
-                alloc,
-                &[
-                    (
-                        BOX,
-                        &[40, 40, 40],
-                        &[placed(1, r0, -20, 0, 0), placed(1, r0, 20, 0, 0)],
-                    ),
-                    (
-                        BOX,
-                        world,
-                        &[
-                            placed(2, r0, 0, 0, 0),
-                            placed(2, r0, 9, 0, 0),
-                            placed(2, r0, 18, 0, 0),
-                        ],
-                    ),
-                    (BOX, cube, &[]),
-                ],
-            )?,
-            "in 0 0; in 0 1; apart 0 0 1 1 0 0 0; in 1 0; in 1 1; out 1 2 23 -5 -5; overlap 1 0 1 5:-5:5:1 5:5:-5:1 5:-5:-5:1 4:-5:-5:1; apart 1 0 2 1 0 0 5; overlap 1 1 2 14:-5:5:1 14:5:-5:1 14:-5:-5:1 13:-5:-5:1; ",
-            "out 1 2 23 -5 -5; overlap 1 0 1 5:-5:5:1 5:5:-5:1 5:-5:-5:1 4:-5:-5:1; overlap 1 1 2 14:-5:5:1 14:5:-5:1 14:-5:-5:1 13:-5:-5:1; ",
-            Some("out 1 2 23 -5 -5; "),
-            (5, 4, 3),
+            &[
+                (BOX, &[40, 40, 40], &[(1, 0, -20, 0, 0), (1, 0, 20, 0, 0)]),
+                (
+                    BOX,
+                    &[20, 20, 20],
+                    &[(2, 0, 0, 0, 0), (2, 0, 9, 0, 0), (2, 0, 18, 0, 0)],
+                ),
+                (BOX, &[5, 5, 5], &[]),
+            ],
+            "in 0 0; in 0 1; apart 0 0 1 1 0 0 0; in 1 0; in 1 1; out 1 2 23 -5 -5; overlap 1 0 1 5:-5:5:1 5:5:-5:1 5:-5:-5:1 4:-5:-5:1; apart 1 0 2 1 0 0 5; overlap 1 1 2 14:-5:5:1 14:5:-5:1 14:-5:-5:1 13:-5:-5:1; 5 4 3",
+            "out 1 2 23 -5 -5; overlap 1 0 1 5:-5:5:1 5:5:-5:1 5:-5:-5:1 4:-5:-5:1; overlap 1 1 2 14:-5:5:1 14:5:-5:1 14:-5:-5:1 13:-5:-5:1; 5 4 3",
+            "out 1 2 23 -5 -5; ",
         ),
     ];
-    for (tree, all, refuting, first, (daughters, pairs, refuted)) in &cases {
-        let counts = Counts {
-            daughters: *daughters,
-            pairs: *pairs,
-            refuted: *refuted,
-        };
-        for (selection, words) in [(Selection::All, *all), (Selection::Refuting, *refuting)] {
-            let mut out = Words::new(alloc, 9);
-            assert_eq!(rt; check_tree(alloc, tree, selection, &mut out), Ok(counts));
-            assert_eq!(rt; out.text.as_str(), words);
-        }
-        let found = first_refuted(alloc, tree).ok().ok_or("memory")?;
-        let mut text = String::new(alloc);
-        if let Some(verdict) = &found {
-            write(alloc, &mut text, verdict)?;
-        }
-        assert_eq!(rt; found.is_some(), first.is_some());
-        assert_eq!(rt; text.as_str(), first.unwrap_or(""));
+    for (bodies, all, refuting, refuted) in cases {
+        let tree = hierarchy(alloc, bodies)?;
+        assert_eq!(rt; judged(alloc, &tree, Selection::All)?.as_str(), all);
+        assert_eq!(rt; judged(alloc, &tree, Selection::Refuting)?.as_str(), refuting);
+        assert_eq!(rt; first(alloc, &tree)?.as_str(), refuted);
     }
     Ok(())
 }
@@ -278,18 +250,11 @@ fn each_daughter_and_each_pair_is_judged(rt: HostRuntime) -> Result<(), Fail> {
 #[test]
 fn a_receiver_that_fails_ends_the_check(rt: HostRuntime) -> Result<(), Fail> {
     let alloc = rt.alloc();
-    let r0 = Rotation::new(0);
-    let tree = hierarchy(
-        alloc,
-        &[
-            (
-                BOX,
-                &[20, 20, 20],
-                &[placed(1, r0, -5, 0, 0), placed(1, r0, 5, 0, 0)],
-            ),
-            (BOX, &[5, 5, 5], &[]),
-        ],
-    )?;
+    let bodies: &[Body<'_>] = &[
+        (BOX, &[20, 20, 20], &[(1, 0, -5, 0, 0), (1, 0, 5, 0, 0)]),
+        (BOX, &[5, 5, 5], &[]),
+    ];
+    let tree = hierarchy(alloc, bodies)?;
     let mut out = Words::new(alloc, 1);
     assert_eq!(rt; check_tree(alloc, &tree, Selection::All, &mut out), Err(CheckError::Out));
     assert_eq!(rt; out.text.as_str(), "in 0 0; ");

@@ -8,7 +8,10 @@ use gx_plane::Plane;
 #[derive(Drop)]
 pub enum Verdict {
     /// The daughter is in her mother.
-    Inner { mother: u32, ordinal: u32 },
+    Inner {
+        mother: u32,
+        ordinal: u32,
+    },
     /// She isn't: her first vertex that isn't in the mother.
     Outer {
         mother: u32,

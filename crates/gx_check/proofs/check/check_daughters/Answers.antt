@@ -39,8 +39,7 @@ loop-ordinal-preserved g c =
     let next = daughters_next c.args.mother c.args.outer.now c.args.daughters.now k x (omega arith) c.daughter_verdict-verdict.ensures in
     more c.loop-ordinal.invariant (x ∷ []) (daughters_left c.args.mother c.args.outer.now c.args.daughters.now (k + 1)) next c.give.new.out c.in_ok-give.field-0 c.plus-counts.result c.in_ok-give.ensures.gives c.in_ok-give.ensures.counts c.plus-counts.ensures
 
-pub returns-clause-gives : goal.returns-clause-gives
-returns-clause-gives g c = (ended c.loop-ordinal.invariant c.loop-ordinal.counts (daughters_end c.args.mother c.args.outer.now c.args.daughters.now c.loop-ordinal.ordinal (omega arith))).0
-
-pub returns-clause-counts : goal.returns-clause-counts
-returns-clause-counts g c = (ended c.loop-ordinal.invariant c.loop-ordinal.counts (daughters_end c.args.mother c.args.outer.now c.args.daughters.now c.loop-ordinal.ordinal (omega arith))).1
+pub returns : goal.returns
+returns g c =
+    let all = ended c.loop-ordinal.invariant c.loop-ordinal.counts (daughters_end c.args.mother c.args.outer.now c.args.daughters.now c.loop-ordinal.ordinal (omega arith)) in
+    record { gives = all.0; counts = all.1 }

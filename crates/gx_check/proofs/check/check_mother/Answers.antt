@@ -1,9 +1,6 @@
 use Rattle.std.proofs.Common.{[], All, IsTrue, refl, sym, ap, subst, ◌∙◌, append-nil}
 use Rattle.std.proofs.lemmas.Result.{err_from_is_err_and}
 use Rattle.gx_algebra.proofs.Lists.{All-append_parts}
-use Rattle.gx_convex.specs.Points.{distinct}
-use Rattle.gx_shapes.specs.declared.figure.Figure.{Figure}
-use Rattle.gx_shapes.specs.Solid.{vertices_of}
 use Rattle.gx_check.specs.Counting.{IsFew, plus}
 use Rattle.gx_check.specs.Verdicts.{daughter_verdicts, pair_verdicts, verdicts_in, chosen, counts_of}
 use Rattle.gx_check.proofs.Giving.{start, takes_more, more, stopped, ended, given_nothing, counts_of-append, few_counts}
@@ -22,7 +19,7 @@ check_daughters-requires g c =
     let ds = c.in_ok-daughters.daughters in
     let a = daughter_verdicts c.args.mother c.hull-outer.result.now ds in
     let b = pair_verdicts c.args.mother ds in
-    let whole = in_parts c.args.tree.now c.args.mother c.hull-outer.result.now ds (c.hull-outer.ensures.value ∙ ap (λ (f : Figure). distinct (vertices_of f)) c.solid.ensures.value) c.in_ok-daughters.ensures.value in
+    let whole = in_parts c.args.tree.now c.args.mother c.solid.result.now c.hull-outer.result.now ds c.solid.ensures.value c.hull-outer.ensures.value c.in_ok-daughters.ensures.value in
     (All-append_parts (λ x. IsTrue (g.V.Verdicts.takes c.args.out.now x)) a b (subst (All (λ x. IsTrue (g.V.Verdicts.takes c.args.out.now x))) (sym whole) c.requires.takes)).0
 
 pub returns-in_err-judged-clause-gives : goal.returns-in_err-judged-clause-gives
@@ -30,7 +27,7 @@ returns-in_err-judged-clause-gives g c =
     let ds = c.in_ok-daughters.daughters in
     let a = daughter_verdicts c.args.mother c.hull-outer.result.now ds in
     let b = pair_verdicts c.args.mother ds in
-    let whole = in_parts c.args.tree.now c.args.mother c.hull-outer.result.now ds (c.hull-outer.ensures.value ∙ ap (λ (f : Figure). distinct (vertices_of f)) c.solid.ensures.value) c.in_ok-daughters.ensures.value in
+    let whole = in_parts c.args.tree.now c.args.mother c.solid.result.now c.hull-outer.result.now ds c.solid.ensures.value c.hull-outer.ensures.value c.in_ok-daughters.ensures.value in
     let p = err_from_is_err_and c.from_residual-in_err-judged.result c.from_residual-in_err-judged.ensures.1 in
     rw (p.1, p.2) (stopped (start c.args.selection c.args.out.now _ _ (counts_of []) whole refl) a b refl c.check_daughters.new.out c.in_err-judged.field-0.0 c.in_err-judged.ensures.gives)
 
@@ -40,7 +37,7 @@ check_pairs-requires g c =
     let ds = c.in_ok-daughters.daughters in
     let a = daughter_verdicts c.args.mother c.hull-outer.result.now ds in
     let b = pair_verdicts c.args.mother ds in
-    let whole = in_parts c.args.tree.now c.args.mother c.hull-outer.result.now ds (c.hull-outer.ensures.value ∙ ap (λ (f : Figure). distinct (vertices_of f)) c.solid.ensures.value) c.in_ok-daughters.ensures.value in
+    let whole = in_parts c.args.tree.now c.args.mother c.solid.result.now c.hull-outer.result.now ds c.solid.ensures.value c.hull-outer.ensures.value c.in_ok-daughters.ensures.value in
     let going = more (start c.args.selection c.args.out.now _ _ (counts_of []) whole refl) a b refl c.check_daughters.new.out c.in_ok-judged.judged (plus (counts_of []) c.in_ok-judged.judged) c.in_ok-judged.ensures.gives c.in_ok-judged.ensures.counts refl in
     takes_more going b [] (sym (append-nil b)) c.requires.takes
 
@@ -49,7 +46,7 @@ returns-in_err-paired-clause-gives g c =
     let ds = c.in_ok-daughters.daughters in
     let a = daughter_verdicts c.args.mother c.hull-outer.result.now ds in
     let b = pair_verdicts c.args.mother ds in
-    let whole = in_parts c.args.tree.now c.args.mother c.hull-outer.result.now ds (c.hull-outer.ensures.value ∙ ap (λ (f : Figure). distinct (vertices_of f)) c.solid.ensures.value) c.in_ok-daughters.ensures.value in
+    let whole = in_parts c.args.tree.now c.args.mother c.solid.result.now c.hull-outer.result.now ds c.solid.ensures.value c.hull-outer.ensures.value c.in_ok-daughters.ensures.value in
     let going = more (start c.args.selection c.args.out.now _ _ (counts_of []) whole refl) a b refl c.check_daughters.new.out c.in_ok-judged.judged (plus (counts_of []) c.in_ok-judged.judged) c.in_ok-judged.ensures.gives c.in_ok-judged.ensures.counts refl in
     let p = err_from_is_err_and c.from_residual-in_err-paired.result c.from_residual-in_err-paired.ensures.1 in
     rw (p.1, p.2) (stopped going b [] (sym (append-nil b)) c.check_pairs.new.out c.in_err-paired.field-0.0 c.in_err-paired.ensures.gives)
@@ -62,20 +59,15 @@ plus-requires g c =
       other_few = subst IsFew (sym c.in_ok-paired.ensures.counts) (few_counts (pair_verdicts c.args.mother ds) (few_pairs c.args.mother ds c.in_ok-daughters.ensures.few));
     }
 
-pub returns-clause-gives : goal.returns-clause-gives
-returns-clause-gives g c =
+pub returns : goal.returns
+returns g c =
     let ds = c.in_ok-daughters.daughters in
     let a = daughter_verdicts c.args.mother c.hull-outer.result.now ds in
     let b = pair_verdicts c.args.mother ds in
-    let whole = in_parts c.args.tree.now c.args.mother c.hull-outer.result.now ds (c.hull-outer.ensures.value ∙ ap (λ (f : Figure). distinct (vertices_of f)) c.solid.ensures.value) c.in_ok-daughters.ensures.value in
+    let whole = in_parts c.args.tree.now c.args.mother c.solid.result.now c.hull-outer.result.now ds c.solid.ensures.value c.hull-outer.ensures.value c.in_ok-daughters.ensures.value in
     let going = more (start c.args.selection c.args.out.now _ _ (counts_of []) whole refl) a b refl c.check_daughters.new.out c.in_ok-judged.judged (plus (counts_of []) c.in_ok-judged.judged) c.in_ok-judged.ensures.gives c.in_ok-judged.ensures.counts refl in
     let all = more going b [] (sym (append-nil b)) c.check_pairs.new.out c.in_ok-paired.paired (plus (plus (counts_of []) c.in_ok-judged.judged) c.in_ok-paired.paired) c.in_ok-paired.ensures.gives c.in_ok-paired.ensures.counts refl in
-    (ended all c.plus.result refl).0
-
-pub returns-clause-counts : goal.returns-clause-counts
-returns-clause-counts g c =
-    let ds = c.in_ok-daughters.daughters in
-    let a = daughter_verdicts c.args.mother c.hull-outer.result.now ds in
-    let b = pair_verdicts c.args.mother ds in
-    let whole = in_parts c.args.tree.now c.args.mother c.hull-outer.result.now ds (c.hull-outer.ensures.value ∙ ap (λ (f : Figure). distinct (vertices_of f)) c.solid.ensures.value) c.in_ok-daughters.ensures.value in
-    c.plus.ensures ∙ (λ i. plus (c.in_ok-judged.ensures.counts i) (c.in_ok-paired.ensures.counts i)) ∙ sym (counts_of-append a b) ∙ ap counts_of whole
+    record {
+      gives = (ended all c.plus.result refl).0;
+      counts = c.plus.ensures ∙ (λ i. plus (c.in_ok-judged.ensures.counts i) (c.in_ok-paired.ensures.counts i)) ∙ sym (counts_of-append a b) ∙ ap counts_of whole;
+    }

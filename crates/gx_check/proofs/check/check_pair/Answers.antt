@@ -16,27 +16,20 @@ give-requires g c =
     let is = overlap_is c.args.mother c.args.daughters.now c.args.first c.args.second c.hull-a.result.now c.hull-b.result.now c.hull-a.ensures c.hull-b.ensures c.in-Some.points (rw c.in-Some.is at c.in_ok-points.ensures.value) (rw c.in-Some.is at c.in_ok-points.ensures.apart) in
     rw (← is) c.requires.takes
 
-pub returns-in-Some-clause-gives : goal.returns-in-Some-clause-gives
-returns-in-Some-clause-gives g c =
+pub returns-in-Some : goal.returns-in-Some
+returns-in-Some g c =
     let is = overlap_is c.args.mother c.args.daughters.now c.args.first c.args.second c.hull-a.result.now c.hull-b.result.now c.hull-a.ensures c.hull-b.ensures c.in-Some.points (rw c.in-Some.is at c.in_ok-points.ensures.value) (rw c.in-Some.is at c.in_ok-points.ensures.apart) in
-    rw is c.give.ensures.gives
-
-pub returns-in-Some-clause-counts : goal.returns-in-Some-clause-counts
-returns-in-Some-clause-counts g c =
-    let is = overlap_is c.args.mother c.args.daughters.now c.args.first c.args.second c.hull-a.result.now c.hull-b.result.now c.hull-a.ensures c.hull-b.ensures c.in-Some.points (rw c.in-Some.is at c.in_ok-points.ensures.value) (rw c.in-Some.is at c.in_ok-points.ensures.apart) in
-    rw is c.give.ensures.counts
+    record { gives = rw is c.give.ensures.gives; counts = rw is c.give.ensures.counts }
 
 -- ---- none were found, and no plane is looked for
-pub returns-then-is_refuting-clause-gives : goal.returns-then-is_refuting-clause-gives
-returns-then-is_refuting-clause-gives g c =
+pub returns-then-is_refuting : goal.returns-then-is_refuting
+returns-then-is_refuting g c =
+    let x = pair_verdict c.args.mother c.args.daughters.now c.args.first c.args.second in
     let parted = parted_from c.args.mother c.args.daughters.now c.args.first c.args.second c.hull-a.result.now c.hull-b.result.now c.hull-a.ensures c.hull-b.ensures (sym (rw c.in_default.is at c.in_ok-points.ensures.apart)) in
-    given_none c.pair.result c.args.selection (pair_verdict c.args.mother c.args.daughters.now c.args.first c.args.second) c.args.out.now
-    (rw (c.is_refuting.ensures c.if-is_refuting.true) (parted_given c.args.mother c.args.daughters.now c.args.first c.args.second parted))
-
-pub returns-then-is_refuting-clause-counts : goal.returns-then-is_refuting-clause-counts
-returns-then-is_refuting-clause-counts g c =
-    let parted = parted_from c.args.mother c.args.daughters.now c.args.first c.args.second c.hull-a.result.now c.hull-b.result.now c.hull-a.ensures c.hull-b.ensures (sym (rw c.in_default.is at c.in_ok-points.ensures.apart)) in
-    c.pair.ensures ∙ sym (parted_counted c.args.mother c.args.daughters.now c.args.first c.args.second parted)
+    record {
+      gives = given_none c.pair.result c.args.selection x c.args.out.now (rw (c.is_refuting.ensures c.if-is_refuting.true) (parted_given c.args.mother c.args.daughters.now c.args.first c.args.second parted));
+      counts = c.pair.ensures ∙ sym (parted_counted c.args.mother c.args.daughters.now c.args.first c.args.second parted);
+    }
 
 -- ---- the plane
 pub give-requires-2 : goal.give-requires-2
@@ -44,12 +37,7 @@ give-requires-2 g c =
     let is = apart_is c.args.mother c.args.daughters.now c.args.first c.args.second c.hull-a.result.now c.hull-b.result.now c.hull-a.ensures c.hull-b.ensures c.unwrap.result (sym c.plane_between.ensures ∙ c.unwrap.ensures) in
     rw (← is) c.requires.takes
 
-pub returns-clause-gives : goal.returns-clause-gives
-returns-clause-gives g c =
+pub returns : goal.returns
+returns g c =
     let is = apart_is c.args.mother c.args.daughters.now c.args.first c.args.second c.hull-a.result.now c.hull-b.result.now c.hull-a.ensures c.hull-b.ensures c.unwrap.result (sym c.plane_between.ensures ∙ c.unwrap.ensures) in
-    rw is c.give-2.ensures.gives
-
-pub returns-clause-counts : goal.returns-clause-counts
-returns-clause-counts g c =
-    let is = apart_is c.args.mother c.args.daughters.now c.args.first c.args.second c.hull-a.result.now c.hull-b.result.now c.hull-a.ensures c.hull-b.ensures c.unwrap.result (sym c.plane_between.ensures ∙ c.unwrap.ensures) in
-    rw is c.give-2.ensures.counts
+    record { gives = rw is c.give-2.ensures.gives; counts = rw is c.give-2.ensures.counts }

@@ -31,8 +31,7 @@ loop-first-preserved g c =
     let k = c.loop-first.first in
     more c.loop-first.invariant (verdicts_with c.args.mother c.args.daughters.now k) (pairs_left c.args.mother c.args.daughters.now (k + 1)) (pairs_next c.args.mother c.args.daughters.now k (omega arith)) c.check_with.new.out c.in_ok-check_with.field-0 c.plus-counts.result c.in_ok-check_with.ensures.gives c.in_ok-check_with.ensures.counts c.plus-counts.ensures
 
-pub returns-clause-gives : goal.returns-clause-gives
-returns-clause-gives g c = (ended c.loop-first.invariant c.loop-first.counts (pairs_end c.args.mother c.args.daughters.now c.loop-first.first (omega arith))).0
-
-pub returns-clause-counts : goal.returns-clause-counts
-returns-clause-counts g c = (ended c.loop-first.invariant c.loop-first.counts (pairs_end c.args.mother c.args.daughters.now c.loop-first.first (omega arith))).1
+pub returns : goal.returns
+returns g c =
+    let all = ended c.loop-first.invariant c.loop-first.counts (pairs_end c.args.mother c.args.daughters.now c.loop-first.first (omega arith)) in
+    record { gives = all.0; counts = all.1 }

@@ -31,8 +31,7 @@ loop-mother-preserved g c =
     let k = c.loop-mother.mother in
     more c.loop-mother.invariant (verdicts_in c.args.tree.now k) (mothers_left c.args.tree.now (k + 1)) (mothers_next c.args.tree.now k (omega arith)) c.check_mother.new.out c.in_ok-check_mother.field-0 c.plus-counts.result c.in_ok-check_mother.ensures.gives c.in_ok-check_mother.ensures.counts c.plus-counts.ensures
 
-pub returns-clause-gives : goal.returns-clause-gives
-returns-clause-gives g c = (ended c.loop-mother.invariant c.loop-mother.counts (mothers_end c.args.tree.now c.loop-mother.mother (omega arith))).0
-
-pub returns-clause-counts : goal.returns-clause-counts
-returns-clause-counts g c = (ended c.loop-mother.invariant c.loop-mother.counts (mothers_end c.args.tree.now c.loop-mother.mother (omega arith))).1
+pub returns : goal.returns
+returns g c =
+    let all = ended c.loop-mother.invariant c.loop-mother.counts (mothers_end c.args.tree.now c.loop-mother.mother (omega arith)) in
+    record { gives = all.0; counts = all.1 }

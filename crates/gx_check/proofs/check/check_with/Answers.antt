@@ -55,8 +55,7 @@ loop-second-preserved g c =
     let x = pair_verdict c.args.mother c.args.daughters.now c.args.first k in
     more c.loop-second.invariant (x ∷ []) (with_left c.args.mother c.args.daughters.now c.args.first (k + 1)) (with_next c.args.mother c.args.daughters.now c.args.first k x (omega arith) refl) c.check_pair.new.out c.in_ok-check_pair.field-0 c.plus-counts-in-loop-second.result c.in_ok-check_pair.ensures.gives c.in_ok-check_pair.ensures.counts c.plus-counts-in-loop-second.ensures
 
-pub returns-clause-gives : goal.returns-clause-gives
-returns-clause-gives g c = (ended c.loop-second.invariant c.loop-second.counts (with_end c.args.mother c.args.daughters.now c.args.first c.loop-second.second (omega arith))).0
-
-pub returns-clause-counts : goal.returns-clause-counts
-returns-clause-counts g c = (ended c.loop-second.invariant c.loop-second.counts (with_end c.args.mother c.args.daughters.now c.args.first c.loop-second.second (omega arith))).1
+pub returns : goal.returns
+returns g c =
+    let all = ended c.loop-second.invariant c.loop-second.counts (with_end c.args.mother c.args.daughters.now c.args.first c.loop-second.second (omega arith)) in
+    record { gives = all.0; counts = all.1 }
