@@ -1,7 +1,7 @@
 -- A hierarchy is clean exactly where no verdict refutes it.
-use Rattle.std.proofs.Common.{◌≡◌, ◌⊎◌, inl, inr, ◌↔◌, ℕ, zero, suc, ◌+◌, ◌-◌, ◌<◌, ◌≤◌, ℤ, pos, ◌<ℤ◌, Bool, true, false, true≢false, List, [], ◌∷◌, ◌++◌, length, map, find, get_or, Option, None, Some, All, Contains, refl, sym, ap, ◌∙◌, subst, arith}
+use Rattle.std.proofs.Common.{◌≡◌, ◌⊎◌, inl, inr, ◌↔◌, ℕ, ◌+◌, ◌-◌, ◌<◌, ◌≤◌, pos, ◌<ℤ◌, Bool, false, true≢false, List, [], ◌∷◌, length, map, find, get_or, Option, None, Some, All, Contains, refl, sym, ap, ◌∙◌, subst, arith}
 use Rattle.std.specs.Prelude.{flat_map, unwrap_or}
-use Rattle.std.specs.List.{AllPairs, range_with_len}
+use Rattle.std.specs.List.{range_with_len}
 use Rattle.std.proofs.lemmas.List.{length-map, get_or-map, get_or_default}
 use Rattle.std.proofs.lemmas.List.Elements.{All-nil, All-head, All-tail, All-append, All-map, Contains-append_left, Contains-append_right}
 use Rattle.std.proofs.lemmas.List.FromFn.{length-range_with_len, get_or-range_with_len}
@@ -15,7 +15,6 @@ use Rattle.gx_convex.specs.Hull.{IsHullOf}
 use Rattle.gx_convex.specs.Laws.{AreTheSolid}
 use Rattle.gx_convex.proofs.FaceFacts.{faces_bound, implied}
 use Rattle.gx_shapes.specs.Solid.{solid_of}
-use Rattle.gx_shapes.specs.Accepted.{IsSolid}
 use Rattle.gx_shapes.proofs.Solids.{faces_are_the_solid_of, whole_hull}
 use Rattle.gx_rotation.specs.Matrix.{Matrix, identity}
 use Rattle.gx_rotation.specs.Rotation.{matrix_of}

@@ -1,5 +1,5 @@
 -- How many verdicts there are at most.
-use Rattle.std.proofs.Common.{◌≡◌, ℕ, ◌+◌, ◌-◌, ◌*◌, ◌^◌, ◌<◌, ◌≤◌, List, length, map, ap, ◌∙◌, All, arith, length-append}
+use Rattle.std.proofs.Common.{◌≡◌, ℕ, ◌+◌, ◌-◌, ◌*◌, ◌^◌, ◌<◌, ◌≤◌, List, length, ap, ◌∙◌, arith, length-append}
 use Rattle.std.specs.Prelude.{flat_map, sum_by}
 use Rattle.std.specs.List.{range_with_len}
 use Rattle.std.proofs.lemmas.List.{length-map}
@@ -12,7 +12,7 @@ use Rattle.gx_tree.specs.Volume.{copies_of, instance_of, instances_of, instances
 use Rattle.gx_tree.specs.Hierarchy.{Hierarchy, volume_at, instances}
 use Rattle.gx_tree.specs.Limits.{instance_count}
 use Rattle.gx_tree.specs.Fault.{IsTree}
-use Rattle.gx_check.specs.Verdicts.{placed_vertices, placed_daughters, solid_vertices, ordinals_from, daughter_verdict, daughter_verdicts, pair_verdict, verdicts_with, pair_verdicts, verdicts_in, verdicts}
+use Rattle.gx_check.specs.Verdicts.{placed_vertices, placed_daughters, solid_vertices, daughter_verdict, daughter_verdicts, pair_verdict, verdicts_with, pair_verdicts, verdicts_in, verdicts}
 
 length-instances_in : (ps : List Placement) → length (instances_in ps) ≡ sum_by copies_of ps
 unfolding instances_of

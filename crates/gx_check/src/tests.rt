@@ -62,9 +62,10 @@ fn write(alloc: Global, text: &mut String, verdict: &Verdict) -> Result<(), Allo
             mother,
             ordinal,
             point,
-        } => text.push_str(
-            &format!(in alloc; "out {mother} {ordinal} {} {} {}; ", point.x, point.y, point.z)?,
-        ),
+        } => text.push_str(&format!(in alloc;
+            "out {mother} {ordinal} {} {} {}; ",
+            point.x, point.y, point.z
+        )?),
         Verdict::Apart {
             mother,
             first,
@@ -73,7 +74,11 @@ fn write(alloc: Global, text: &mut String, verdict: &Verdict) -> Result<(), Allo
         } => {
             let n = plane.n();
             text.push_str(&format!(in alloc;
-                "apart {mother} {first} {second} {} {} {} {}; ", n.x, n.y, n.z, plane.e()
+                "apart {mother} {first} {second} {} {} {} {}; ",
+                n.x,
+                n.y,
+                n.z,
+                plane.e()
             )?)
         }
         Verdict::Overlap {
@@ -145,9 +150,7 @@ fn judged(alloc: Global, tree: &Hierarchy, selection: Selection) -> Result<Strin
         .ok()
         .ok_or("counts")?;
     let mut text = out.text;
-    text.push_str(
-        &format!(in alloc; "{} {} {}", counts.daughters, counts.pairs, counts.refuted)?,
-    )?;
+    text.push_str(&format!(in alloc; "{} {} {}", counts.daughters, counts.pairs, counts.refuted)?)?;
     Ok(text)
 }
 
@@ -241,7 +244,10 @@ fn each_daughter_and_each_pair_is_judged(rt: HostRuntime) -> Result<(), Fail> {
     for (bodies, all, refuting, refuted) in cases {
         let tree = hierarchy(alloc, bodies)?;
         assert_eq!(rt; judged(alloc, &tree, Selection::All)?.as_str(), all);
-        assert_eq!(rt; judged(alloc, &tree, Selection::Refuting)?.as_str(), refuting);
+        assert_eq!(rt;
+            judged(alloc, &tree, Selection::Refuting)?.as_str(),
+            refuting
+        );
         assert_eq!(rt; first(alloc, &tree)?.as_str(), refuted);
     }
     Ok(())
@@ -256,7 +262,10 @@ fn a_receiver_that_fails_ends_the_check(rt: HostRuntime) -> Result<(), Fail> {
     ];
     let tree = hierarchy(alloc, bodies)?;
     let mut out = Words::new(alloc, 1);
-    assert_eq!(rt; check_tree(alloc, &tree, Selection::All, &mut out), Err(CheckError::Out));
+    assert_eq!(rt;
+        check_tree(alloc, &tree, Selection::All, &mut out),
+        Err(CheckError::Out)
+    );
     assert_eq!(rt; out.text.as_str(), "in 0 0; ");
     assert_eq!(rt; out.faults, 1);
     Ok(())

@@ -1,4 +1,4 @@
-use Rattle.std.proofs.Common.{◌≡◌, [], ◌∷◌, cond, ap, ◌∙◌}
+use Rattle.std.proofs.Common.{[], ◌∷◌, cond, ap, ◌∙◌}
 use Rattle.gx_check.proofs.Giving.{given_none, given_one}
 use Rattle.gx_check.proofs.check.give.Goals as goal
 use Rattle.gx_check.proofs.check.give.Goals.{then-has+in_ok-verdict, else-has}

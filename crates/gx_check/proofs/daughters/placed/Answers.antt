@@ -1,4 +1,4 @@
-use Rattle.std.proofs.Common.{◌≡◌, [], map, ◌∙◌, sym, ap, subst, All, unsigned_abs}
+use Rattle.std.proofs.Common.{map, ◌∙◌, sym, ap, subst, All, unsigned_abs}
 use Rattle.gx_num.specs.declared.vector.TheConstants.{M}
 use Rattle.gx_num.specs.Vector.{IsWithin}
 use Rattle.gx_convex.specs.Points.{distinct}
