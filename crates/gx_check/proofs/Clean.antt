@@ -1,9 +1,9 @@
 -- A hierarchy is clean exactly where no verdict refutes it.
 use Rattle.std.proofs.Common.{◌≡◌, ◌⊎◌, inl, inr, ◌↔◌, ℕ, ◌+◌, ◌-◌, ◌<◌, ◌≤◌, pos, ◌<ℤ◌, Bool, false, true≢false, List, [], ◌∷◌, length, map, find, get_or, Option, None, Some, All, Contains, refl, sym, ap, ◌∙◌, subst, arith}
-use Rattle.std.specs.Prelude.{flat_map, unwrap_or}
+use Rattle.std.specs.Prelude.{unwrap_or}
 use Rattle.std.specs.List.{range_with_len}
 use Rattle.std.proofs.lemmas.List.{length-map, get_or-map, get_or_default}
-use Rattle.std.proofs.lemmas.List.Elements.{All-nil, All-head, All-tail, All-append, All-map, Contains-append_left, Contains-append_right}
+use Rattle.std.proofs.lemmas.List.Elements.{All-head, All-tail, Contains-append_left, Contains-append_right}
 use Rattle.std.proofs.lemmas.List.FromFn.{length-range_with_len, get_or-range_with_len}
 use Rattle.gx_num.specs.declared.vector.V3.{V3}
 use Rattle.gx_num.specs.Space.{HalfSpace, is_in, is_inside}
@@ -37,20 +37,12 @@ use Rattle.gx_check.specs.declared.verdict.Verdict.{Verdict}
 use Rattle.gx_check.specs.Verdicts.{solid_vertices, placed_vertices, placed_daughters, contained, parted, daughter_verdict, pair_verdict, ordinals_from, daughter_verdicts, verdicts_with, pair_verdicts, verdicts_in, verdicts, refutes}
 use Rattle.gx_check.specs.Clean.{is_in_daughter, IsContainedIn, AreDisjoint, IsClean}
 use Rattle.gx_check.specs.Laws.{CleanWhereUnrefuted}
+use Rattle.gx_check.proofs.Each.{All-verdicts}
 
 -- ---- lists
 none-find : {X : Type 0} (test : X → Bool) (xs : List X) → All (λ x. test x ≡ false) xs → find test xs ≡ None
 none-find test [] all = refl
 none-find test (x ∷ xs) all = rw (All-head (λ x. test x ≡ false) x xs all) (none-find test xs (All-tail (λ x. test x ≡ false) x xs all))
-
-All-flat_map : {X Y : Type 0} (P : Y → Type 0) (f : X → List Y) (xs : List X) → All (λ x. All P (f x)) xs → All P (flat_map f xs)
-All-flat_map P f [] all = All-nil P
-All-flat_map P f (x ∷ xs) all = All-append P (f x) (flat_map f xs) (All-head (λ x. All P (f x)) x xs all) (All-flat_map P f xs (All-tail (λ x. All P (f x)) x xs all))
-
-All-range : (P : ℕ → Type 0) (a n : ℕ) → ((k : ℕ) → a ≤ k → k < a + n → P k) → All P (range_with_len a n)
-All-range P a n h k d less =
-    let below : k < n = omega (arith, length-range_with_len a n) in
-    subst P (sym (get_or-range_with_len a n k d below)) (h (a + k) (omega arith) (omega arith))
 
 Contains-range : (a n k : ℕ) → a ≤ k → k < a + n → Contains (range_with_len a n) k
 Contains-range a n k from below = (k - a, omega (arith, length-range_with_len a n), get_or-range_with_len a n (k - a) k (omega arith) ∙ omega arith)
@@ -172,22 +164,11 @@ module _ (h : Hierarchy) (tree : IsTree h) where
         let first : i < length (instances h v) = omega arith in
         by_plane v i j _ _ (subst IsParted (sym (nth-between v i j first within)) ((disjoint_where (nth v i) (nth v j) (nth-body v i first) (nth-body v j within)).0 (clean.disjoint v below i j nothing less within)))
 
-    mother_unrefuted : All Unrefuted (verdicts_in h v)
-    unfolding verdicts_in daughter_verdicts pair_verdicts verdicts_with
-    mother_unrefuted =
-        let count : length (placed_daughters h v) ≡ length (instances h v) = length-map (instances h v) (placed_vertices h) in
-        let ds = placed_daughters h v in
-        All-append Unrefuted (daughter_verdicts v (solid_vertices h v) ds) (pair_verdicts v ds)
-        (All-map Unrefuted (daughter_verdict v (solid_vertices h v) ds) (ordinals_from 0 ds) (All-range (λ k. Unrefuted (daughter_verdict v (solid_vertices h v) ds k)) 0 (length ds - 0) (λ k from less. daughter_unrefuted k (omega arith))))
-        (All-flat_map Unrefuted (verdicts_with v ds) (ordinals_from 0 ds)
-        (All-range (λ i. All Unrefuted (verdicts_with v ds i)) 0 (length ds - 0) (λ i _ _.
-        All-map Unrefuted (pair_verdict v ds i) (ordinals_from (i + 1) ds) (All-range (λ j. Unrefuted (pair_verdict v ds i j)) (i + 1) (length ds - (i + 1)) (λ j from less. pair_unrefuted i j (omega arith) (omega arith))))))
-
   unrefuted : IsClean h → find refutes (verdicts h) ≡ None
-  unfolding verdicts Unrefuted
+  unfolding Unrefuted
   unrefuted clean =
       none-find refutes (verdicts h)
-      (All-flat_map Unrefuted (verdicts_in h) (range_with_len 0 (length h.volumes)) (All-range (λ v. All Unrefuted (verdicts_in h v)) 0 (length h.volumes) (λ v from less. mother_unrefuted clean v (omega arith))))
+      (All-verdicts Unrefuted h (λ v k below less. daughter_unrefuted clean v below k less) (λ v i j below less within. pair_unrefuted clean v below i j less within))
 
   -- ---- a hierarchy that no verdict refutes is clean
   module _ (none : find refutes (verdicts h) ≡ None) (v : ℕ) (below : v < length h.volumes) where

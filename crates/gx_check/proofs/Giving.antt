@@ -150,9 +150,6 @@ module _ {S A : Type 0} {held : S → Option (List A)} {items : S → Verdict �
         cause = subst (λ n. IsCheckCause n (faults next) error) going.kept gives.cause;
       }
 
-    pub wanting : {T : Type 0} → Gives {T = T} held items takes faults before now (chosen s whole) (Err NoMemory)
-    wanting {T} = stopped [] left refl {T = T} {R = T} now NoMemory (given_nothing now (chosen s []))
-
   -- ---- one verdict
   module _ {T : Type 0} (t : T) (s : Selection) (v : Verdict) (before : S) where
     pub given_none : chosen s (v ∷ []) ≡ [] → Gives held items takes faults before before (chosen s (v ∷ [])) (Ok t)

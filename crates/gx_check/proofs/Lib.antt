@@ -1,4 +1,5 @@
 mod Clean
+pub mod Each
 mod Giving
 mod Judged
 mod Left
