@@ -8,7 +8,7 @@ mod Levels
 mod Lists
 mod Mixes
 mod Offered
-mod Quick
+pub mod Quick
 mod Reached
 mod Shown
 mod Sides

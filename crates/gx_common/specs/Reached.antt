@@ -1,4 +1,4 @@
--- Quick answers: extents that have no inside in common, and faces with no vertex strictly inside. For private functions.
+-- Quick answers: extents that have no inside in common, and faces with no vertex strictly inside.
 use Rattle.std.specs.Prelude.{pos, int_le, int_lt, Bool, ◌||◌, List}
 use Rattle.std.specs.List.{list_all, list_any}
 use Rattle.gx_num.specs.declared.vector.V3.{V3}

@@ -63,8 +63,9 @@ fn taken_points(alloc: Global, a: &Hull, b: &Hull) -> Result<Option<Vec<Candidat
     take_all(alloc, a, b)
 }
 
-// On some axis the one ends where the other begins, or before.
-fn are_apart(a: Extent, b: Extent) -> bool
+/// On some axis the one ends where the other begins, or before; so the insides of two solids with these extents don't meet.
+#[inline(always)]
+pub fn are_apart(a: Extent, b: Extent) -> bool
     ensures { result ≡ are_extents_apart a b }
 {
     if is_any_at_most(a.high, b.low) {

@@ -13,5 +13,5 @@ mod sum;
 mod tests;
 mod vertex;
 
-pub use common::{common_points, insides_meet};
+pub use common::{are_apart, common_points, insides_meet};
 pub use points::Points;

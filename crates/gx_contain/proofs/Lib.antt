@@ -1,2 +1,2 @@
-mod Containment
+pub mod Containment
 mod KnownPoints

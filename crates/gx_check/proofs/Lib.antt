@@ -1,0 +1,8 @@
+mod Clean
+pub mod Each
+mod Giving
+mod Judged
+mod Left
+mod Placed
+mod Seeking
+mod Sizes
