@@ -1,9 +1,9 @@
 //! Runs over sources and sinks in memory, with outputs worked out by hand, and one call of each public function below.
 use crate::{Status, counted, exit_code};
 use gx_fraction::Frac;
+use gx_gather::{ReadError, TextFault};
 use gx_io::{MemSink, MemSource};
 use gx_num::{V3, cmp_products, gcd, sign};
-use gx_reader::{ReadError, TextFault};
 use gx_table::FaultName;
 use gx_text::{LineError, LineFault, Lines, Name, is_name};
 use std::alloc::Global;
@@ -110,10 +110,28 @@ fn each_ray_has_its_report(rt: HostRuntime) -> Result<(), Fail> {
 fn a_fault_of_the_text_is_a_line(rt: HostRuntime) -> Result<(), Fail> {
     let alloc = rt.alloc();
     let texts = [
-        ("", "fault 0 0 NotBuilt\n"),
+        ("", "fault 0 0 NoWorld\n"),
         (
             ":P d 10\n:VOLU world BOX $d/3 10 10 Air\n:RAY -20 0 0 1 0 0",
             "fault 2 4 OffGrid\n",
+        ),
+        (":VOLU world BOX 10 1", "fault 1 6 Words\n"),
+        (
+            ":VOLU world EXTRUDED 4 -10 -10 10 -10 10 10 -10 10 2 -5 0 0 1 5 0 0 1/3 Air",
+            "fault 1 21 Scale\n",
+        ),
+        (
+            ":VOLU w TESSELLATED 4 3 0 0 0 0 4 0 4 0 0 3 0 0 0 4 0 0 0 0 4 3 0 0 0 0 0 4 0 4 0 3 4 0 0 2 2 0 0 0 4 Air",
+            "fault 1 3 OpenEdge\n",
+        ),
+        (
+            ":ROTM r0 0 0 0\n:VOLU a BOX 1 1 1 Air\n:PLACE a 1 a r0 0 0 0",
+            "fault 2 2 Cycle\n",
+        ),
+        // so far
+        (
+            ":ROTM r0 0 0 0\n:VOLU world BOX 20 20 20 Air\n:VOLU b BOX 5 5 5 Lead\n:PLACE b 1 world r0 -5 0 0\n:RAY -30 0 0 1 0 0",
+            "fault 0 0 NotBuilt\n",
         ),
     ];
     for (text, output) in texts {
@@ -195,6 +213,18 @@ fn a_world_is_traced_by_its_faces(rt: HostRuntime) -> Result<(), Fail> {
         (
             ":VOLU t TET 0 0 0 0 4 0 4 0 0 0 0 4 Air\n:RAY 1 1 -5 0 0 1",
             "ray 1\n5 7 t\n",
+        ),
+        (
+            ":VOLU t TESSELLATED 4 3 0 0 0 0 4 0 4 0 0 3 0 0 0 4 0 0 0 0 4 3 0 0 0 0 0 4 0 4 0 3 4 0 0 0 4 0 0 0 4 Air\n:RAY 1 1 -5 0 0 1",
+            "ray 1\n5 7 t\n",
+        ),
+        (
+            ":VOLU world EXTRUDED 4 -10 -10 10 -10 10 10 -10 10 2 -5 0 0 1 5 0 0 1/2 Air\n:RAY -20 0 0 1 0 0",
+            "ray 1\n25/2 55/2 world\n",
+        ),
+        (
+            ":RAY -20 0 0 1 0 0\n:volu world s Air\n:Solid s Box 10 10 10",
+            "ray 1\n10 30 world\n",
         ),
     ];
     for (text, output) in texts {

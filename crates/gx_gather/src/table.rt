@@ -18,7 +18,7 @@ pub struct Table<T> {
 
 impl<T> Model for Table<T> {
     ghost use Rattle.std.specs.Option.{option_map};
-ghost use Rattle.std.specs.Prelude.{◌≡◌, length};
+    ghost use Rattle.std.specs.Prelude.{◌≡◌, length};
     ghost use Rattle.gx_gather.specs.Table.{Table as Rows, table_code};
 
     ghost Value = { Rows T };

@@ -92,9 +92,7 @@ fn layered(alloc: Global, v: u32) -> Option<Vec<Placement>> {
     } else if v <= 3960 {
         let next = (v - 1) / 132 * 132 + 133;
         for i in 0..16u32 {
-            placements
-                .push(single(next + (v - 1 + 7 * i) % 132))
-                .ok()?;
+            placements.push(single(next + (v - 1 + 7 * i) % 132)).ok()?;
         }
     }
     Some(placements)

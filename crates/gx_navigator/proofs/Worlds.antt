@@ -91,8 +91,8 @@ module _ (h : Hierarchy) (ray : Ray) (solid : IsSolid (volume_at h.volumes h.wor
   pub world_report : (clip : Option Span) → IsClip world_faces ray clip → IsReport (path_along h ray) (rows_of clip)
   world_report clip is =
       subst (λ place. IsReport place (rows_of clip)) path_is
-        (IsReport-clip (solid_of world_figure) ray clip
-        (IsClip-same (solid_of world_figure) world_faces ray (λ t h. are.same_inside (point_of_ray ray t) (omega (arith, ints, h.1))) clip is))
+      (IsReport-clip (solid_of world_figure) ray clip
+      (IsClip-same (solid_of world_figure) world_faces ray (λ t h. are.same_inside (point_of_ray ray t) (omega (arith, ints, h.1))) clip is))
 
   pub report_of : HasDirection ray → (rows : List Row) × IsReport (path_along h ray) rows
   report_of moves = let clip = clip_exists world_faces ray world_bounded moves in (rows_of clip.0, world_report clip.0 clip.1)

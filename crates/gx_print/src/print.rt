@@ -7,8 +7,8 @@ ghost use Rattle.gx_print.specs.Texts.{usage_line, ray_head, row_text, fault_lin
 
 use gx_clip::Span;
 use gx_fraction::Frac;
-use gx_io::{Failed, Sink, write_all};
 use gx_gather::TextFault;
+use gx_io::{Failed, Sink, write_all};
 use gx_table::fault_text;
 use itoa::{Buffer, Integer};
 

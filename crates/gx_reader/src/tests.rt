@@ -98,12 +98,7 @@ fn each_text_has_its_first_fault(rt: HostRuntime) -> Result<(), Fail> {
         // lines together
         (":P a 1\n:P a 2", 2, 2, Twice),
         (":P a 1\n:P a 1*mm", 2, 2, Twice),
-        (
-            ":VOLU a BOX 1 1 1 Air\n:VOLU a BOX 1 1 1 Air",
-            2,
-            2,
-            Twice,
-        ),
+        (":VOLU a BOX 1 1 1 Air\n:VOLU a BOX 1 1 1 Air", 2, 2, Twice),
         // names, after all lines
         (":VOLU w s Air", 1, 3, NoSolid),
         (

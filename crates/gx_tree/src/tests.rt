@@ -4,9 +4,7 @@ ghost use Rattle.gx_num.specs.declared.vector.TheConstants.{M};
 ghost use Rattle.gx_shapes.specs.Accepted.{IsSolid};
 ghost use Rattle.gx_shapes.specs.Solid.{vertices_of};
 
-use crate::{
-    Hierarchy, Instance, Placement, TreeError, TreeFault, Volume, are_within_limits,
-};
+use crate::{Hierarchy, Instance, Placement, TreeError, TreeFault, Volume, are_within_limits};
 use gx_hull::{Hull, Solid};
 use gx_num::{M, V3};
 use gx_rotation::Rotation;

@@ -10,7 +10,7 @@ pub returns-then-not-is_alone-clause-output : goal.returns-then-not-is_alone-cla
 returns-then-not-is_alone-clause-output g c = λ grid.
     let daughters = c.is_alone.ensures.daughters c.if-not-is_alone.true in
     subst (λ is. Ends (Some (Reading Trace grid)) (IsTraced is c.args.input) (g.K.Sink.written c.args.sink.now) (g.K.Sink.written c.write_fault.new.sink) c.write_fault.result)
-      (sym daughters.2) (c.write_fault.ensures.output Trace grid)
+    (sym daughters.2) (c.write_fault.ensures.output Trace grid)
 
 pub returns-clause-output : goal.returns-clause-output
 returns-clause-output g c = λ grid.

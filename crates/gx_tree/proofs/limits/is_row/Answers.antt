@@ -13,9 +13,9 @@ record Tells (reached : Bool) (count : ℕ) (step offset : ℤ) : Type 0 where
 
 row_is : (reached : Bool) (axis count : ℕ) (step offset : ℤ) → IsGiven axis count step offset → Tells reached count step offset → IsTrue reached ↔ IsRow axis count step offset
 row_is reached axis count step offset given tells = (
-    λ yes. record { copies = given.copies; near_step = given.near_step; near_offset = given.near_offset; near = tells.all yes },
-    λ row. tells.ends.1 (record { first = row.near 0 (omega (arith, given.copies.some)); last = row.near (count - 1) (omega (arith, given.copies.some)) })
-  )
+  λ yes. record { copies = given.copies; near_step = given.near_step; near_offset = given.near_offset; near = tells.all yes },
+  λ row. tells.ends.1 (record { first = row.near 0 (omega (arith, given.copies.some)); last = row.near (count - 1) (omega (arith, given.copies.some)) }),
+)
 
 pub returns-then-is_given : goal.returns-then-is_given
 returns-then-is_given c =
@@ -25,5 +25,5 @@ returns-then-is_given c =
     let given : IsGiven a.axis a.count (to_z w64 (of_z w64 a.step)) (to_z w64 (of_z w64 a.offset)) = c.is_given.ensures.0 c.if-is_given.true in
     let tells : Tells c.reaches.result a.count (to_z w64 (of_z w64 a.step)) (to_z w64 (of_z w64 a.offset)) = record { ends = c.reaches.ensures.ends; all = c.reaches.ensures.all } in
     subst (λ s. IsTrue c.reaches.result ↔ IsRow a.axis a.count s a.offset) step
-      (subst (λ o. IsTrue c.reaches.result ↔ IsRow a.axis a.count (to_z w64 (of_z w64 a.step)) o) offset
-        (row_is c.reaches.result a.axis a.count (to_z w64 (of_z w64 a.step)) (to_z w64 (of_z w64 a.offset)) given tells))
+    (subst (λ o. IsTrue c.reaches.result ↔ IsRow a.axis a.count (to_z w64 (of_z w64 a.step)) o) offset
+    (row_is c.reaches.result a.axis a.count (to_z w64 (of_z w64 a.step)) (to_z w64 (of_z w64 a.offset)) given tells))

@@ -25,5 +25,5 @@ invariant_of-self-2 c =
     let volume = Volume a.line a.name a.shape a.material in
     let named : c.define.new.names ≡ g.volumes ++ a.name ∷ [] = c.in_ok-define.ensures.defines.1 ∙ ap (λ n. g.volumes ++ n ∷ []) c.bytes.ensures in
     subst (λ items. IsGathered g.param_lines c.define.new.names g.placements items) (sym (c.in_ok-push.ensures.items ∙ ap (λ items. items ++ volume ∷ []) c.in_ok-reserve.ensures.items))
-      (subst (λ names. IsGathered g.param_lines names g.placements (g.items.items ++ volume ∷ [])) (sym named)
-        (one_volume_more g.param_lines g.volumes g.placements g.items.items c.self.invariant a.line a.name a.material a.shape c.requires c.in_ok-define.ensures.room))
+    (subst (λ names. IsGathered g.param_lines names g.placements (g.items.items ++ volume ∷ [])) (sym named)
+    (one_volume_more g.param_lines g.volumes g.placements g.items.items c.self.invariant a.line a.name a.material a.shape c.requires c.in_ok-define.ensures.room))
