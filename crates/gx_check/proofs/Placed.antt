@@ -37,8 +37,11 @@ module _ (hulls daughters : List (List V3)) (extents : List Extent) (same : hull
       let within : k < length hulls = omega (arith, ap length same) in
       at ∙ ap (λ boxes. get_or boxes k box) kept.boxes ∙ get_or-map extent_of hulls k [] box within ∙ ap (λ ds. extent_of (get_or ds k [])) same
 
+  pub apart_at : (i j : ℕ) (box other : Extent) → i < length daughters → j < length daughters → box ≡ get_or extents i box → other ≡ get_or extents j other → are_extents_apart box other ≡ are_extents_apart (extent_of (get_or daughters i [])) (extent_of (get_or daughters j []))
+  apart_at i j box other first second at at_other = λ t. are_extents_apart (extent_at i box first at t) (extent_at j other second at_other t)
+
   pub parted_at : (i j : ℕ) (box other : Extent) → i < length daughters → j < length daughters → box ≡ get_or extents i box → other ≡ get_or extents j other → are_extents_apart box other ≡ true → AreParted daughters i j
   unfolding AreParted
   parted_at i j box other first second at at_other apart =
       plane_from_extents (get_or daughters i []) (get_or daughters j []) (solid_at i first) (solid_at j second)
-      ((λ t. are_extents_apart (sym (extent_at i box first at) t) (sym (extent_at j other second at_other) t)) ∙ apart)
+      (sym (apart_at i j box other first second at at_other) ∙ apart)

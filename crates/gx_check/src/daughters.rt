@@ -1,5 +1,7 @@
 ghost use Rattle.std.specs.Prelude.{◌≡◌, ◌<◌, ◌≤◌, [], length, slice_index_or, IsTrue, IfOk};
+ghost use Rattle.gx_convex.specs.Extent.{extent_of};
 ghost use Rattle.gx_hull.specs.Hull.{IsVertices};
+ghost use Rattle.gx_common.specs.Reached.{are_extents_apart};
 ghost use Rattle.gx_tree.specs.Hierarchy.{instances};
 ghost use Rattle.gx_check.specs.Kept.{AreParted};
 ghost use Rattle.gx_check.specs.Verdicts.{placed_daughters};
@@ -64,11 +66,12 @@ impl Daughters {
         &self.hulls[ordinal as usize]
     }
 
-    /// The extents of the two tell that a plane is between them.
+    /// The extents of the two are apart or touch, so a plane is between them.
     pub fn are_apart(&self, first: u32, second: u32) -> bool
         requires first { first < length self.now }
         requires second { second < length self.now }
-        ensures { IsTrue result → AreParted self.now first second }
+        ensures value { result ≡ are_extents_apart (extent_of (slice_index_or self.now first [])) (extent_of (slice_index_or self.now second [])) }
+        ensures parted { IsTrue result → AreParted self.now first second }
     {
         are_apart(self.extents[first as usize], self.extents[second as usize])
     }

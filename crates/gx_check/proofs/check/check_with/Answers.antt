@@ -15,7 +15,7 @@ pub plus-counts-requires : goal.plus-counts-requires
 plus-counts-requires g c =
     let k = c.loop-second.second in
     let x = pair_verdict c.args.mother c.args.daughters.now c.args.first k in
-    let counted = c.pair.ensures ∙ sym (parted_counted c.args.mother c.args.daughters.now c.args.first k (c.are_apart.ensures c.if-are_apart.true)) in
+    let counted = c.pair.ensures ∙ sym (parted_counted c.args.mother c.args.daughters.now c.args.first k (c.are_apart.ensures.parted c.if-are_apart.true)) in
     let few = few_more c.loop-second.invariant (x ∷ []) (with_left c.args.mother c.args.daughters.now c.args.first (k + 1)) (with_next c.args.mother c.args.daughters.now c.args.first k x (omega arith) refl) c.pair.result counted (few_with c.args.mother c.args.daughters.now c.args.first (omega arith)) in
     record { few = few.0; other_few = few.1 }
 
@@ -23,7 +23,7 @@ pub loop-second-preserved-then-are_apart : goal.loop-second-preserved-then-are_a
 loop-second-preserved-then-are_apart g c =
     let k = c.loop-second.second in
     let x = pair_verdict c.args.mother c.args.daughters.now c.args.first k in
-    let parted = c.are_apart.ensures c.if-are_apart.true in
+    let parted = c.are_apart.ensures.parted c.if-are_apart.true in
     let none = given_none c.pair.result c.args.selection x c.loop-second.out (rw (c.is_refuting.ensures c.if-is_refuting.true) (parted_given c.args.mother c.args.daughters.now c.args.first k parted)) in
     let counted = c.pair.ensures ∙ sym (parted_counted c.args.mother c.args.daughters.now c.args.first k parted) in
     more c.loop-second.invariant (x ∷ []) (with_left c.args.mother c.args.daughters.now c.args.first (k + 1)) (with_next c.args.mother c.args.daughters.now c.args.first k x (omega arith) refl) c.loop-second.out c.pair.result c.plus-counts.result none counted c.plus-counts.ensures

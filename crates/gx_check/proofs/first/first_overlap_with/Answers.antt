@@ -14,7 +14,7 @@ loop-second-preserved-then-are_apart c =
     let k = c.loop-second.second in
     let x = pair_verdict c.args.mother c.args.daughters.now c.args.first k in
     let next = with_next c.args.mother c.args.daughters.now c.args.first k x (omega arith) refl in
-    none_here c.loop-second.invariant (x ∷ []) (with_left c.args.mother c.args.daughters.now c.args.first (k + 1)) next None (sym (parted_found c.args.mother c.args.daughters.now c.args.first k (c.are_apart.ensures c.if-are_apart.true))) refl
+    none_here c.loop-second.invariant (x ∷ []) (with_left c.args.mother c.args.daughters.now c.args.first (k + 1)) next None (sym (parted_found c.args.mother c.args.daughters.now c.args.first k (c.are_apart.ensures.parted c.if-are_apart.true))) refl
 
 pub returns-in-Some : goal.returns-in-Some
 returns-in-Some c =
