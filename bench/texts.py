@@ -1,4 +1,5 @@
-"""Writes the texts of the measure into a folder: `rays` in a world of each kind, `comments`, and `numbers` of four lengths."""
+"""Writes the texts of the measure into a folder: `rays` in a world of each kind, `comments`, `numbers` of four lengths, and
+`fill-TAG` up to a limit of lines or of bytes for each tag."""
 import random
 import sys
 
@@ -35,3 +36,44 @@ for lines in (12500, 25000, 50000, 100000):
         for line in range(lines // 2 - 1):
             at = random.randint(0, lines // 2 - 1)
             text.write(f":RAY -{line % 1000}.*mm $p{at}-$p{at} .5*cm 1 -({line % 5}+1)*5/5*mm {line % 3}*cm\n")
+
+
+def fill(name, *parts):
+    """A text of these parts, each lines that are made from their numbers up to a limit, as far as 64 MiB reach."""
+    text, room = [], size - len(head)
+    for limit, line in parts:
+        for number in range(limit):
+            made = line(number) + "\n"
+            if len(made) > room:
+                break
+            text.append(made)
+            room -= len(made)
+    with open(f"{folder}/fill-{name}", "w") as file:
+        file.write("".join(text) + head)
+
+
+# a double pyramid on 30 corners of a parabola, with 60 triangles, as a line of nearly 65536 bytes: numbers have leading zeros
+corners = [(x, 10 * x * x, 0) for x in range(-15, 15)]
+ring = list(zip(corners, corners[1:] + corners[:1]))
+facets = [(a, b, (0, 1000, 500)) for a, b in ring] + [(b, a, (0, 1000, -500)) for a, b in ring]
+pyramids = "TESSELLATED 60 " + " ".join("3 " + " ".join(f"{x:0118}" for corner in facet for x in corner) for facet in facets)
+terms = "+".join(["1.5*cm-(2+3)*3.*mm"] * 3300)
+none = (1, lambda i: ":ROTM none 0 0 0")
+
+fill("blanks", (65536, lambda i: f":P p{i} {' ' * 65000} 1"))
+fill("expressions", (65536, lambda i: f":P p{i} {terms}"))
+fill("tessellated", (65536, lambda i: f":SOLID s{i} {pyramids}"))
+fill("params", (65536, lambda i: f":P p{i} {i}*mm"))
+fill("solids", (65536, lambda i: f":SOLID s{i} TRD {i + 1} 20 30 40 50"))
+fill("long-names", (65536, lambda i: f":SOLID {'n' * 245}{i:05} BOX 1 2 3"))
+fill("rotations", (65536, lambda i: f":ROTM r{i} 90*deg {90 * (i % 4)} 180"))
+fill("rays", (65535, lambda i: f":RAY {i - 30000} {i % 999} -5 {i % 7 + 1} -3 2"))
+fill("volumes", none,
+     (4095, lambda i: f":VOLU v{i} EXTRUDED 4 0 0 {i + 1} 0 50 50 0 50 2 -10 0 0 1 10 0 0 2 Air"),
+     (4095, lambda i: f":PLACE v{i} 1 world none 0 0 0"))
+# 65536 placements: 16 mothers of 4095 daughters
+fill("placements", none,
+     (16, lambda i: f":VOLU mother{i} BOX 9 9 9 Air"),
+     (1, lambda i: ":VOLU part BOX 1 1 1 Lead"),
+     (16, lambda i: f":PLACE mother{i} 1 world none 0 0 {i}"),
+     (65520, lambda i: f":PLACE part {i} mother{i % 16} none {i % 999} {-i % 999} 2*{i % 99}"))
