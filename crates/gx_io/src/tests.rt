@@ -1,4 +1,5 @@
-ghost use Rattle.std.specs.Prelude.{◌≡◌, ◌++◌};
+ghost use Rattle.std.specs.Prelude.{◌≡◌, ◌++◌, length};
+ghost use Rattle.gx_io.specs.Bytes.{HasCause, Writes};
 
 use super::*;
 use std::alloc::Global;
@@ -132,7 +133,7 @@ fn whole_texts_are_written_and_read(rt: HostRuntime) -> Result<(), Fail> {
     Ok(())
 }
 
-// Two texts, one behind the other.
+// Two texts, one behind the other, and how long they are.
 #[derive(Drop)]
 struct Two {
     first: Vec<u8>,
@@ -140,13 +141,23 @@ struct Two {
 }
 
 impl Print for Two {
-    ghost prints = { λ two whole. whole ≡ two.first.items ++ two.second.items };
+    type Answer = usize;
 
-    #[tactic(auto, using(crate::proofs::Joined::joined))]
-    fn print<K: Sink>(&self, sink: &mut K) -> Result<(), Failed> {
-        write_all(sink, &self.first)?;
-        write_all(sink, &self.second)
+    ghost prints = { λ two whole answer. (whole ≡ two.first.items ++ two.second.items) × (answer ≡ length whole) };
+
+    fn print<K: Sink>(&self, sink: &mut K) -> Result<usize, Failed> {
+        write_two(&self.first, &self.second, sink)?;
+        Ok(self.first.len() + self.second.len())
     }
+}
+
+#[tactic(auto, using(crate::proofs::Joined::joined))]
+fn write_two<K: Sink>(first: &[u8], second: &[u8], sink: &mut K) -> Result<(), Failed>
+    ensures bytes { Writes (K.written sink.old) (K.written sink.new) (first.now ++ second.now) result }
+    ensures cause { HasCause (K.faults sink.old) (K.faults sink.new) result }
+{
+    write_all(sink, first)?;
+    write_all(sink, second)
 }
 
 #[test]
@@ -154,9 +165,9 @@ fn what_is_printed_is_handed_on_in_large_pieces(rt: HostRuntime) -> Result<(), F
     let alloc = rt.alloc();
     // the lengths of two texts, the write that fails, the answer, and how much the sink has
     let cases = [
-        (0, 0, 1, Ok(()), 0),
-        (40_000, 20_000, 2, Ok(()), 60_000),
-        (100_000, 50_000, 4, Ok(()), 150_000),
+        (0, 0, 1, Ok(0), 0),
+        (40_000, 20_000, 2, Ok(60_000), 60_000),
+        (100_000, 50_000, 4, Ok(150_000), 150_000),
         (100_000, 50_000, 3, Err(Failed), 131_072),
         (65_536, 65_536, 2, Err(Failed), 65_536),
         (0, 65_537, 2, Err(Failed), 65_536),

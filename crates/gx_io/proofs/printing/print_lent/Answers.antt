@@ -14,5 +14,5 @@ returns-clause-bytes g c =
     let ended = ap (λ l. written l.sink.now) (sym c.into_inner-sink.ensures) in
     let grows = subst (λ t. Grows t new) (sym c.requires.written) c.into_inner-sink.result.grows in
     let gathered = subst (λ t. Writes old (with_after t wrote.new.buffered.buffer) text.0 wrote.result) ended
-    (subst (λ t. Writes t (with_after (written wrote.new.buffered.inner.sink.now) wrote.new.buffered.buffer) text.0 wrote.result) started text.2) in
-    (text.0, text.1, writes-handed old new wrote.new.buffered.buffer text.0 wrote.result grows gathered wrote.ensures.all)
+    (subst (λ t. Writes t (with_after (written wrote.new.buffered.inner.sink.now) wrote.new.buffered.buffer) text.0 wrote.result) started text.3) in
+    (text.0, text.1, text.2, writes-handed old new wrote.new.buffered.buffer text.0 wrote.result grows gathered wrote.ensures.all, text.4)
