@@ -22,6 +22,7 @@ pub use buffer::{Buffer, PIECE};
 pub use buffered_sink::BufferedSink;
 pub use error::IoError;
 pub use fault::Failed;
+pub use lent::{Lent, Loan};
 pub use mem_sink::MemSink;
 pub use mem_source::MemSource;
 pub use printing::{Print, print_buffered};
