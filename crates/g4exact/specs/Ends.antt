@@ -9,7 +9,7 @@ use Rattle.gx_reader.specs.declared.reader.TheConstants.{MAX_TEXT}
 use Rattle.g4exact.specs.Output.{IsTrace, IsOutput}
 use Rattle.g4exact.specs.declared.command.Command.{Command}
 use Rattle.g4exact.specs.declared.command.Command.TheVariants.{Reading}
-use Rattle.g4exact.specs.declared.command.Verb.TheVariants.{Trace}
+use Rattle.g4exact.specs.declared.command.Verb.TheVariants.{Trace, Check}
 use Rattle.g4exact.specs.declared.outcome.Status.{Status}
 use Rattle.g4exact.specs.declared.outcome.Status.TheVariants.{Clean, Refuted, TextFault, WordsFault, ReadFault, WriteFault, NoMemory}
 
@@ -30,10 +30,12 @@ WritesFront output old new = (bytes : List ℕ) × (status : Status) × output b
 abbrev pub WritesTrace : Input → Option (List ℕ) → Option (List ℕ) → Result (Unit {0}) Failed → Type 0
 WritesTrace input old new result = (bytes : List ℕ) × IsTrace input.tree 1 input.rays bytes × Writes old new bytes result
 
--- What was written where memory was wanting, by the command: nothing, since all memory is taken before the first byte is written.
+-- What was written where memory was wanting, by the command: a front of what `check` writes, which takes memory between two writes;
+-- else nothing, since all memory is taken before the first byte is written.
 abbrev pub Wants : Option Command → (List ℕ → Status → Type 0) → Option (List ℕ) → Option (List ℕ) → Type 0
 Wants None output old new = new ≡ old
 Wants (Some (Reading Trace grid)) output old new = new ≡ old
+Wants (Some (Reading (Check selection) grid)) output old new = WritesFront output old new
 
 -- All of the output is written at the statuses that tell it, a front of it at a write fault, and nothing at a read fault.
 abbrev pub Ends : Option Command → (List ℕ → Status → Type 0) → Option (List ℕ) → Option (List ℕ) → Status → Type 0

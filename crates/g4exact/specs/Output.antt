@@ -1,23 +1,25 @@
 -- What the program writes, and with which status it ends.
-use Rattle.std.specs.Prelude.{◌≡◌, ℕ, ◌+◌, List, [], ◌∷◌, ◌++◌, Option, None, Some, Result, Ok, Err}
-use Rattle.std.specs.List.{flat_map}
+use Rattle.std.specs.Prelude.{◌≡◌, ℕ, ◌+◌, List, [], ◌∷◌, ◌++◌, Option, None, Some, Result, Ok, Err, if◌then◌else◌}
+use Rattle.std.specs.List.{flat_map, list_any}
 use Rattle.gx_num.specs.declared.ray.Ray.{Ray}
 use Rattle.gx_path.specs.Report.{Row, IsReport}
 use Rattle.gx_table.specs.declared.fault.FaultName.TheVariants.{NotBuilt}
 use Rattle.gx_tree.specs.declared.instance.Instance.{Instance}
 use Rattle.gx_tree.specs.Hierarchy.{Hierarchy, volume_at, instances}
 use Rattle.gx_tree.specs.Deepest.{path_along}
+use Rattle.gx_check.specs.declared.selection.Selection.{Selection}
+use Rattle.gx_check.specs.Verdicts.{verdicts, refutes, chosen, counts_of}
 use Rattle.gx_gather.specs.declared.fault.TextFault.{TextFault}
 use Rattle.gx_gather.specs.Faults.{fault_at}
 use Rattle.gx_link.specs.declared.input.Input.{Input}
 use Rattle.gx_reader.specs.Reading.{reading}
-use Rattle.gx_print.specs.Texts.{usage_line, ray_head, row_text, fault_line}
+use Rattle.gx_print.specs.Texts.{usage_line, ray_head, row_text, fault_line, verdict_line, counts_line}
 use Rattle.g4exact.specs.declared.command.Command.{Command}
 use Rattle.g4exact.specs.declared.command.Command.TheVariants.{Reading}
 use Rattle.g4exact.specs.declared.command.Verb.{Verb}
-use Rattle.g4exact.specs.declared.command.Verb.TheVariants.{Trace}
+use Rattle.g4exact.specs.declared.command.Verb.TheVariants.{Trace, Check}
 use Rattle.g4exact.specs.declared.outcome.Status.{Status}
-use Rattle.g4exact.specs.declared.outcome.Status.TheVariants.{Clean, TextFault as Faulty, WordsFault}
+use Rattle.g4exact.specs.declared.outcome.Status.TheVariants.{Clean, Refuted, TextFault as Faulty, WordsFault}
 
 abbrev pub world_name : Hierarchy → List ℕ
 world_name h = (volume_at h.volumes h.world).name
@@ -41,8 +43,20 @@ abbrev pub IsTraced : List Instance → Input → List ℕ → Status → Type 0
 IsTraced [] input bytes status = IsTrace input.tree 1 input.rays bytes × (status ≡ Clean)
 IsTraced (daughter ∷ daughters) input bytes status = IsFault (fault_at 0 0 NotBuilt) bytes status
 
+-- the selected verdicts on a hierarchy, and the counts of all
+abbrev pub check_text : Selection → Hierarchy → List ℕ
+check_text selection h = flat_map (verdict_line h) (chosen selection (verdicts h)) ++ counts_line (counts_of (verdicts h))
+
+-- some verdict refutes it, or none does
+abbrev pub checked_status : Hierarchy → Status
+checked_status h = if list_any refutes (verdicts h) then Refuted else Clean
+
+abbrev pub IsCheck : Selection → Hierarchy → List ℕ → Status → Type 0
+IsCheck selection h bytes status = (bytes ≡ check_text selection h) × (status ≡ checked_status h)
+
 -- what a verb writes of an input
 abbrev pub IsWritten : Verb → Input → List ℕ → Status → Type 0
+IsWritten (Check selection) input bytes status = IsCheck selection input.tree bytes status
 IsWritten Trace input bytes status = IsTraced (instances input.tree input.tree.world) input bytes status
 
 -- the line of the text's fault; or where there is none, what the verb writes

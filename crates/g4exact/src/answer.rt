@@ -4,6 +4,7 @@ ghost use Rattle.g4exact.specs.declared.command.Command.TheVariants.{Reading};
 ghost use Rattle.g4exact.specs.Output.{IsAnswer};
 ghost use Rattle.g4exact.specs.Ends.{Ends, Blames};
 
+use crate::check::check;
 use crate::command::Verb;
 use crate::fault::write_fault;
 use crate::outcome::Status;
@@ -29,6 +30,7 @@ pub fn answer<K: Sink>(
     match read {
         Ok(input) => match verb {
             Verb::Trace => trace(input, buffer, sink),
+            Verb::Check(selection) => check(alloc, selection, input, buffer, sink),
         },
         Err(fault) => write_fault(fault, buffer, sink),
     }

@@ -1,9 +1,12 @@
 ghost use Rattle.std.specs.Prelude.{◌≡◌, [], map, string_bytes};
 ghost use Rattle.gx_expr.specs.Eval.{value_of_word};
-ghost use Rattle.g4exact.specs.Commands.{step_of, grid_of, with_grid, options_from, no_options, verb_of, command_of};
+ghost use Rattle.g4exact.specs.Commands.{step_of, grid_of, takes_brief, with_brief, with_grid, with_option, options_from, no_options, verb_of, verb_with, command_of};
 
+use gx_check::Selection;
 use gx_expr::{Grid, Params, eval};
 use std::alloc::Global;
+
+const BRIEF: &[u8; 7] = b"--brief";
 
 const OPTION: &[u8; 7] = b"--grid=";
 
@@ -19,6 +22,8 @@ pub enum Command {
 pub enum Verb {
     /// Each ray's report.
     Trace,
+    /// The verdicts on daughters and pairs of daughters, and their counts.
+    Check(Selection),
 }
 
 /// The command that the words after the program's name are, if they are one. Takes no memory.
@@ -29,9 +34,9 @@ pub fn command_from(alloc: Global, words: &[String]) -> Option<Command>
         return None;
     };
     let verb = verb_from(first.as_str())?;
-    let options = options_of(alloc, words)?;
+    let options = options_of(alloc, verb, words)?;
     Some(Command::Reading {
-        verb,
+        verb: with_options(verb, options.brief),
         grid: options.grid.unwrap_or(Grid::tenth()),
     })
 }
@@ -41,34 +46,83 @@ fn verb_from(word: &str) -> Option<Verb>
 {
     match word {
         "trace" => Some(Verb::Trace),
+        "check" => Some(Verb::Check(Selection::All)),
         _ => None,
+    }
+}
+
+fn with_options(verb: Verb, brief: bool) -> Verb
+    ensures { result ≡ verb_with brief verb }
+{
+    match verb {
+        Verb::Check(_) if brief => Verb::Check(Selection::Refuting),
+        verb => verb,
     }
 }
 
 // The options of a command, each at most once.
 #[derive(Clone, Copy)]
 struct Options {
+    brief: bool,
     grid: Option<Grid>,
 }
 
-fn options_of(alloc: Global, words: &[String]) -> Option<Options>
-    ensures { result ≡ options_from no_options (map string_bytes words.now) }
+fn options_of(alloc: Global, verb: Verb, words: &[String]) -> Option<Options>
+    ensures { result ≡ options_from verb no_options (map string_bytes words.now) }
 {
-    let mut options = Options { grid: None };
+    let mut options = Options {
+        brief: false,
+        grid: None,
+    };
     for word in words {
-        options = with_option(alloc, options, word.as_bytes())?;
+        options = with_option(alloc, verb, options, word.as_bytes())?;
     }
     Some(options)
 }
 
-fn with_option(alloc: Global, options: Options, word: &[u8]) -> Option<Options>
-    ensures { result ≡ with_grid options.grid (grid_of word.now) }
+fn with_option(alloc: Global, verb: Verb, options: Options, word: &[u8]) -> Option<Options>
+    ensures { result ≡ with_option verb options word.now }
 {
+    if word == BRIEF.as_slice() {
+        with_brief(verb, options)
+    } else {
+        with_grid(options, grid_from(alloc, word))
+    }
+}
+
+fn with_brief(verb: Verb, options: Options) -> Option<Options>
+    ensures { result ≡ with_brief verb options }
+{
+    if options.brief {
+        return None;
+    }
+    if takes_brief(verb) {
+        Some(Options {
+            brief: true,
+            grid: options.grid,
+        })
+    } else {
+        None
+    }
+}
+
+fn takes_brief(verb: Verb) -> bool
+    ensures { result ≡ takes_brief verb }
+{
+    matches!(verb, Verb::Check(_))
+}
+
+fn with_grid(options: Options, grid: Option<Grid>) -> Option<Options>
+    ensures { result ≡ with_grid options grid }
+{
+    let grid = grid?;
     if options.grid.is_some() {
         return None;
     }
-    let grid = grid_from(alloc, word)?;
-    Some(Options { grid: Some(grid) })
+    Some(Options {
+        brief: options.brief,
+        grid: Some(grid),
+    })
 }
 
 // The grid that a word `--grid=EXPR` gives.

@@ -18,7 +18,9 @@ struct FaultLine {
 }
 
 impl Print for FaultLine {
-    ghost prints = { λ line bytes. bytes ≡ fault_line line.fault };
+    type Answer = ();
+
+    ghost prints = { λ line bytes _. bytes ≡ fault_line line.fault };
 
     fn print<K: Sink>(&self, sink: &mut K) -> Result<(), Failed> {
         print_fault(&self.fault, sink)

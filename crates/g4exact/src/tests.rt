@@ -239,6 +239,81 @@ fn a_world_is_traced_by_its_faces(rt: HostRuntime) -> Result<(), Fail> {
     Ok(())
 }
 
+const PAIR: &str = ":ROTM r0 0 0 0\n:VOLU world BOX 20 20 20 Air\n:VOLU b BOX 5 5 5 Lead\n";
+
+// Two boxes that touch, and two that overlap; two tetrahedra that no plane of a face parts; a solid turned out of its mother; two
+// bars of which neither has a corner in the other; a world alone.
+#[test]
+fn each_daughter_and_each_pair_has_its_verdict(rt: HostRuntime) -> Result<(), Fail> {
+    let alloc = rt.alloc();
+    let check_all = ["check", "--grid=1*mm"].as_slice();
+    let brief = ["check", "--grid=1*mm", "--brief"].as_slice();
+    let touching = joined(
+        alloc,
+        PAIR,
+        ":PLACE b 1 world r0 -5 0 0\n:PLACE b 2 world r0 5 0 0\n:RAY -30 0 0 1 0 0",
+    )?;
+    let deep = joined(
+        alloc,
+        PAIR,
+        ":PLACE b 1 world r0 0 0 0\n:PLACE b 2 world r0 9 0 0",
+    )?;
+    let all = [
+        (
+            check_all,
+            touching.as_slice(),
+            Status::Clean,
+            "in world b@0:1\nin world b@1:2\napart world b@0:1 b@1:2 1 0 0 0\nchecked 2 daughters 1 pairs 0 refuted\n",
+        ),
+        (
+            brief,
+            touching.as_slice(),
+            Status::Clean,
+            "checked 2 daughters 1 pairs 0 refuted\n",
+        ),
+        (
+            brief,
+            deep.as_slice(),
+            Status::Refuted,
+            "overlap world b@0:1 b@1:2 5:-5:5:1 5:5:-5:1 5:-5:-5:1 4:-5:-5:1\nchecked 2 daughters 1 pairs 1 refuted\n",
+        ),
+        (
+            check_all,
+            b":ROTM r0 0 0 0\n:VOLU world BOX 20 20 20 Air\n:VOLU a TET -10 0 -10 10 0 10 0 -3 -13 0 3 -7 Lead\n:VOLU b TET 0 -10 -9 0 10 11 -3 0 8 3 0 14 Lead\n:PLACE a 1 world r0 0 0 0\n:PLACE b 1 world r0 0 0 0".as_slice(),
+            Status::Clean,
+            "in world a@0:1\nin world b@1:1\napart world a@0:1 b@1:1 -10 -9 10 0\nchecked 2 daughters 1 pairs 0 refuted\n",
+        ),
+        (
+            check_all,
+            b":ROTM rx 90 0 0\n:VOLU world BOX 20 20 20 Air\n:VOLU t TRD 5 8 5 5 10 Iron\n:PLACE t 1 world rx 0 11 0".as_slice(),
+            Status::Refuted,
+            "out world t@0:1 -8 21 5\nchecked 1 daughters 0 pairs 1 refuted\n",
+        ),
+        (
+            brief,
+            b":ROTM r0 0 0 0\n:VOLU world BOX 20 20 20 Air\n:VOLU a BOX 6 1 1 Lead\n:VOLU b BOX 1 6 1 Lead\n:PLACE a 1 world r0 0 0 0\n:PLACE b -1 world r0 0 0 0".as_slice(),
+            Status::Refuted,
+            "overlap world a@0:1 b@1:-1 -6:-6:-1:6 -6:-1:-6:6 -1:-1:-1:1 1:-1:-1:1\nchecked 2 daughters 1 pairs 1 refuted\n",
+        ),
+        (
+            ["check"].as_slice(),
+            WORLD.as_bytes(),
+            Status::Clean,
+            "checked 0 daughters 0 pairs 0 refuted\n",
+        ),
+    ];
+    for (words, text, status, output) in all {
+        let case = Case {
+            words,
+            text,
+            status,
+            output,
+        };
+        check(&rt, alloc, &case)?;
+    }
+    Ok(())
+}
+
 // Expressions, parameters and grids, by hand: 2 cm and 10 mm are 20 and 10 steps of 1 mm, and so on.
 #[test]
 fn lengths_are_steps_of_the_grid(rt: HostRuntime) -> Result<(), Fail> {
@@ -294,6 +369,8 @@ fn other_words_give_the_usage_line(rt: HostRuntime) -> Result<(), Fail> {
         &["--grid=1*mm", "trace"],
         &["trace", "--grid=1*mm", "--grid=1*mm"],
         &["check", "--brief", "--brief"],
+        &["trace", "--brief"],
+        &["check", "--grid=1*mm", "--brief", "--grid=1*mm"],
         &["sample", "65"],
         &["--help"],
     ];

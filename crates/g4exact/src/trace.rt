@@ -80,7 +80,9 @@ struct Reports {
 }
 
 impl Print for Reports {
-    ghost prints = { λ reports bytes. IsTrace reports.input.tree 1 reports.input.rays bytes };
+    type Answer = ();
+
+    ghost prints = { λ reports bytes _. IsTrace reports.input.tree 1 reports.input.rays bytes };
 
     fn print<K: Sink>(&self, sink: &mut K) -> Result<(), Failed> {
         print_reports(&self.input, sink)

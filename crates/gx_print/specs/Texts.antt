@@ -1,9 +1,18 @@
 -- The texts that the program writes. Each is this project's own.
-use Rattle.std.specs.Prelude.{ℕ, List, [], ◌++◌, ◌==◌, if◌then◌else◌, codes, decimal}
+use Rattle.std.specs.Prelude.{ℕ, List, [], ◌++◌, ◌==◌, if◌then◌else◌, codes, decimal, flat_map, slice_get}
+use Rattle.std.specs.Option.{option_map, unwrap_or}
+use Rattle.std.specs.Fmt.{signed_decimal}
+use Rattle.gx_num.specs.declared.vector.V3.{V3}
 use Rattle.gx_num.specs.Ray.{RayParameter}
+use Rattle.gx_num.specs.Vector4.{Vec4}
 use Rattle.gx_path.specs.Report.{Row}
 use Rattle.gx_table.specs.Faults.{text_of}
 use Rattle.gx_gather.specs.declared.fault.TextFault.{TextFault}
+use Rattle.gx_tree.specs.declared.instance.Instance.{Instance}
+use Rattle.gx_tree.specs.Hierarchy.{Hierarchy, volume_at, instances}
+use Rattle.gx_check.specs.declared.counts.Counts.{Counts}
+use Rattle.gx_check.specs.declared.verdict.Verdict.{Verdict}
+use Rattle.gx_check.specs.declared.verdict.Verdict.TheVariants.{Inner, Outer, Apart, Overlap}
 
 abbrev pub usage_line : List ℕ
 usage_line = codes "usage: g4exact (trace | check [--brief] | list) [--grid=EXPR] | sample N\n"
@@ -30,3 +39,44 @@ row_text world row = fraction_text row.from ++ codes " " ++ fraction_text row.to
 -- `fault LINE WORD NAME`
 abbrev pub fault_line : TextFault → List ℕ
 fault_line fault = codes "fault " ++ decimal fault.line ++ codes " " ++ decimal fault.word ++ codes " " ++ text_of fault.name ++ codes "\n"
+
+-- ---- verdicts
+
+abbrev pub volume_name : Hierarchy → ℕ → List ℕ
+volume_name h v = (volume_at h.volumes v).name
+
+-- a daughter: `NAME@ORDINAL:COPY`
+abbrev pub instance_text : Hierarchy → ℕ → Instance → List ℕ
+instance_text h k i = volume_name h i.volume ++ codes "@" ++ decimal k ++ codes ":" ++ signed_decimal i.copy
+
+-- the one of this ordinal in a mother
+unfoldable pub daughter_text : Hierarchy → ℕ → ℕ → List ℕ
+daughter_text h mother k = unwrap_or (option_map (instance_text h k) (slice_get (instances h mother) k)) []
+
+-- `MOTHER DAUGHTER`
+abbrev pub in_mother : Hierarchy → ℕ → ℕ → List ℕ
+in_mother h mother k = volume_name h mother ++ codes " " ++ daughter_text h mother k
+
+-- `MOTHER A B`
+abbrev pub pair_text : Hierarchy → ℕ → ℕ → ℕ → List ℕ
+pair_text h mother first second = in_mother h mother first ++ codes " " ++ daughter_text h mother second
+
+-- ` X Y Z`
+abbrev pub vector_text : V3 → List ℕ
+vector_text v = codes " " ++ signed_decimal v.x ++ codes " " ++ signed_decimal v.y ++ codes " " ++ signed_decimal v.z
+
+-- ` X:Y:Z:W`, the point (X/W, Y/W, Z/W)
+abbrev pub point_text : Vec4 → List ℕ
+point_text p = codes " " ++ signed_decimal p.x ++ codes ":" ++ signed_decimal p.y ++ codes ":" ++ signed_decimal p.z ++ codes ":" ++ signed_decimal p.w
+
+-- `in MOTHER DAUGHTER`, `out MOTHER DAUGHTER X Y Z`, `apart MOTHER A B NX NY NZ E` with the plane n.x = e, or `overlap MOTHER A B` and each point
+abbrev pub verdict_line : Hierarchy → Verdict → List ℕ
+verdict_line h (Inner mother k) = codes "in " ++ in_mother h mother k ++ codes "\n"
+verdict_line h (Outer mother k point) = codes "out " ++ in_mother h mother k ++ vector_text point ++ codes "\n"
+verdict_line h (Apart mother first second plane) =
+    codes "apart " ++ pair_text h mother first second ++ vector_text plane.n ++ codes " " ++ signed_decimal plane.e ++ codes "\n"
+verdict_line h (Overlap mother first second points) = codes "overlap " ++ pair_text h mother first second ++ flat_map point_text points ++ codes "\n"
+
+-- `checked D daughters P pairs R refuted`
+abbrev pub counts_line : Counts → List ℕ
+counts_line c = codes "checked " ++ decimal c.daughters ++ codes " daughters " ++ decimal c.pairs ++ codes " pairs " ++ decimal c.refuted ++ codes " refuted\n"

@@ -5,12 +5,12 @@ ghost use Rattle.gx_path.specs.Report.{row_of};
 ghost use Rattle.gx_table.specs.Faults.{text_of};
 ghost use Rattle.gx_print.specs.Texts.{usage_line, ray_head, row_text, fault_line, fraction_text};
 
+use crate::number::write_number;
 use gx_clip::Span;
 use gx_fraction::Frac;
 use gx_gather::TextFault;
 use gx_io::{Failed, Sink, write_all};
 use gx_table::fault_text;
-use itoa::{Buffer, Integer};
 
 /// Writes the usage line.
 pub fn print_usage<K: Sink>(sink: &mut K) -> Result<(), Failed>
@@ -95,13 +95,6 @@ fn write_span<K: Sink>(sink: &mut K, span: &Span) -> Result<(), Failed>
     write_fraction(sink, &span.from)?;
     write_all(sink, b" ")?;
     write_fraction(sink, &span.to)
-}
-
-fn write_number<K: Sink, N: Integer>(sink: &mut K, number: N) -> Result<(), Failed>
-    ensures bytes { Writes (K.written sink.old) (K.written sink.new) (N.text number) result }
-    ensures cause { HasCause (K.faults sink.old) (K.faults sink.new) result }
-{
-    write_all(sink, Buffer::new().format(number).as_bytes())
 }
 
 // A denominator of 1 is left out.

@@ -1,0 +1,164 @@
+ghost use Rattle.std.specs.Prelude.{◌≡◌, ℕ, List, [], Some, IfOk, IfErr, OnOk, flat_map, if◌then◌else◌};
+ghost use Rattle.std.specs.List.{list_any};
+ghost use Rattle.gx_fraction.specs.Fraction.{Fraction};
+ghost use Rattle.gx_io.specs.Bytes.{HasCause, Writes};
+ghost use Rattle.gx_check.specs.declared.verdict.Verdict.{Verdict as Given};
+ghost use Rattle.gx_check.specs.Gives.{IsCheckCause};
+ghost use Rattle.gx_check.specs.Verdicts.{verdicts, refutes, chosen, counts_of};
+ghost use Rattle.gx_print.specs.Range.{is_in_range};
+ghost use Rattle.gx_print.specs.Texts.{verdict_line};
+ghost use Rattle.g4exact.specs.declared.command.Command.TheVariants.{Reading};
+ghost use Rattle.g4exact.specs.declared.command.Verb.TheVariants.{Check};
+ghost use Rattle.g4exact.specs.declared.outcome.Status.{Status as Ended};
+ghost use Rattle.g4exact.specs.declared.outcome.Status.TheVariants.{Clean, Refuted};
+ghost use Rattle.g4exact.specs.Checked.{IsChecked};
+ghost use Rattle.g4exact.specs.Output.{IsWritten};
+ghost use Rattle.g4exact.specs.Ends.{Ends, Blames};
+
+use crate::outcome::Status;
+use gx_check::{CheckError, Counts, Selection, Verdict, Verdicts, check_tree};
+use gx_io::{Buffer, Failed, Lent, Loan, Print, Sink, print_buffered};
+use gx_link::Input;
+use gx_print::{print_counts, print_verdict};
+use gx_tree::Hierarchy;
+use std::alloc::Global;
+use std::marker::{Brand, PhantomData};
+
+// What takes verdicts on a hierarchy, and writes the line of each.
+struct Lines<'a, K: Sink> {
+    tree: &'a Hierarchy,
+    sink: K,
+}
+
+impl<'a, K: Sink> Verdicts for Lines<'a, K> {
+    type Item = u8;
+
+    ghost held = { λ l. K.written l.sink };
+
+    ghost items = { λ l v. verdict_line l.tree.now v };
+
+    ghost takes = { λ l v. is_in_range l.tree.now v };
+
+    ghost faults = { λ l. K.faults l.sink };
+
+    fn verdict(&mut self, verdict: &Verdict) -> Result<(), Failed> {
+        print_verdict(self.tree, verdict, &mut self.sink)
+    }
+}
+
+// Checks a hierarchy, writes the verdicts, and gives the sink back.
+fn check_lent<'a, K: Sink, L: Loan>(
+    alloc: Global,
+    tree: &'a Hierarchy,
+    selection: Selection,
+    sink: &'a mut K,
+) -> (Result<Counts, CheckError>, &'a mut K)
+    requires same_reference { sink.ghost_name ≡ L.name }
+    requires written { K.written sink.old ≡ L.written }
+    ensures same_reference { result.1.ghost_name ≡ sink.entry.ghost_name }
+    ensures bytes { Writes (K.written sink.old) (K.written result.1.now) (flat_map (verdict_line tree.now) (chosen selection (verdicts tree.now))) result.0 }
+    ensures counts { IfOk result.0 (λ counts. counts ≡ counts_of (verdicts tree.now)) }
+    ensures kept { OnOk result.0 (K.faults result.1.now ≡ K.faults sink.old) }
+    ensures cause { IfErr result.0 (IsCheckCause (K.faults sink.old) (K.faults result.1.now)) }
+{
+    let lent: Lent<'a, K, L> = Lent {
+        sink,
+        loan: PhantomData,
+    };
+    let mut lines = Lines { tree, sink: lent };
+    let result = check_tree(alloc, tree, selection, &mut lines);
+    let Lines {
+        tree: _,
+        sink: lent,
+    } = lines;
+    let Lent { sink, loan: _ } = lent;
+    (result, sink)
+}
+
+// Checks a hierarchy, and writes the selected verdicts.
+fn print_verdicts<K: Sink>(
+    alloc: Global,
+    tree: &Hierarchy,
+    selection: Selection,
+    sink: &mut K,
+) -> Result<Counts, CheckError>
+    ensures bytes { Writes (K.written sink.old) (K.written sink.new) (flat_map (verdict_line tree.now) (chosen selection (verdicts tree.now))) result }
+    ensures counts { IfOk result (λ counts. counts ≡ counts_of (verdicts tree.now)) }
+    ensures kept { OnOk result (K.faults sink.new ≡ K.faults sink.old) }
+    ensures cause { IfErr result (IsCheckCause (K.faults sink.old) (K.faults sink.new)) }
+{
+    let (result, _sink) = check_lent::<K, Brand>(alloc, tree, selection, sink);
+    result
+}
+
+fn status_of(counts: &Counts) -> Status
+    ensures { (given : List Given) → counts.now ≡ counts_of given → result ≡ (if list_any refutes given then Refuted else Clean) }
+{
+    if counts.refuted > 0 {
+        Status::Refuted
+    } else {
+        Status::Clean
+    }
+}
+
+// Checks a hierarchy, and writes the selected verdicts and the counts.
+fn print_check<K: Sink>(
+    alloc: Global,
+    tree: &Hierarchy,
+    selection: Selection,
+    sink: &mut K,
+) -> Result<Status, Failed>
+    ensures bytes { (whole : List ℕ) × (status : Ended) × IsChecked selection tree.now whole status × Writes (K.written sink.old) (K.written sink.new) whole result × IfOk result (λ told. told ≡ status) }
+    ensures cause { HasCause (K.faults sink.old) (K.faults sink.new) result }
+{
+    match print_verdicts(alloc, tree, selection, sink) {
+        Ok(counts) => {
+            print_counts(&counts, sink)?;
+            Ok(status_of(&counts))
+        }
+        Err(CheckError::Out) => Err(Failed),
+        Err(CheckError::NoMemory) => Ok(Status::NoMemory),
+    }
+}
+
+// The check of an input's hierarchy.
+#[derive(Drop)]
+struct Checking {
+    alloc: Global,
+    selection: Selection,
+    input: Input,
+}
+
+impl Print for Checking {
+    type Answer = Status;
+
+    ghost prints = { λ c bytes status. IsChecked c.selection c.input.tree bytes status };
+
+    fn print<K: Sink>(&self, sink: &mut K) -> Result<Status, Failed> {
+        print_check(self.alloc, &self.input.tree, self.selection, sink)
+    }
+}
+
+/// Checks an input's hierarchy, and writes the selected verdicts and the counts, in large pieces. Memory is taken between two
+/// writes.
+pub fn check<K: Sink>(
+    alloc: Global,
+    selection: Selection,
+    input: Input,
+    buffer: Buffer,
+    sink: &mut K,
+) -> Status
+    requires { buffer ≡ [] }
+    ensures output { (grid : Fraction) → Ends (Some (Reading (Check selection) grid)) (IsWritten (Check selection) input) (K.written sink.old) (K.written sink.new) result }
+    ensures blames { (source : ℕ) → Blames source source (K.faults sink.old) (K.faults sink.new) result }
+{
+    let checking = Checking {
+        alloc,
+        selection,
+        input,
+    };
+    match print_buffered(buffer, sink, &checking) {
+        Ok(status) => status,
+        Err(Failed) => Status::WriteFault,
+    }
+}

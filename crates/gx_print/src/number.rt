@@ -1,0 +1,27 @@
+ghost use Rattle.std.specs.Prelude.{◌++◌};
+ghost use Rattle.gx_io.specs.Bytes.{HasCause, Writes};
+
+use gx_io::{Failed, Sink, write_all};
+use itoa::{Buffer, Integer};
+
+/// Writes a number in decimal.
+pub fn write_number<K: Sink, N: Integer>(sink: &mut K, number: N) -> Result<(), Failed>
+    ensures bytes { Writes (K.written sink.old) (K.written sink.new) (N.text number) result }
+    ensures cause { HasCause (K.faults sink.old) (K.faults sink.new) result }
+{
+    write_all(sink, Buffer::new().format(number).as_bytes())
+}
+
+/// Writes a number behind some text.
+#[tactic(auto, using(gx_io::proofs::Joined::joined))]
+pub fn write_after<K: Sink, N: Integer>(
+    sink: &mut K,
+    before: &[u8],
+    number: N,
+) -> Result<(), Failed>
+    ensures bytes { Writes (K.written sink.old) (K.written sink.new) (before.now ++ N.text number) result }
+    ensures cause { HasCause (K.faults sink.old) (K.faults sink.new) result }
+{
+    write_all(sink, before)?;
+    write_number(sink, number)
+}
