@@ -1,3 +1,4 @@
+pub mod Checks
 pub mod Feeding
 pub mod Runs
 pub mod Traces

@@ -84,15 +84,6 @@ pub same_output : (verb : Verb) (grid : Fraction) (text : List ℕ) (read : Resu
     → Ends (Some (Reading verb grid)) (IsAnswer verb read) old new status → Ends (Some (Reading verb grid)) (IsOutput (Some (Reading verb grid)) text) old new status
 same_output verb grid text read old new status e h = subst (λ answer. Ends (Some (Reading verb grid)) (IsAnswer verb answer) old new status) (sym e) h
 
--- what a verb writes of an input answers a text that reads as it
-pub written_by : (verb : Verb) (grid : Fraction) (input : Input) (old new : Option (List ℕ)) (status : Status) → ((grid : Fraction) → Ends (Some (Reading Trace grid)) (IsWritten Trace input) old new status)
-    → Ends (Some (Reading verb grid)) (IsAnswer verb (Ok input)) old new status
-written_by Trace grid input old new status h = h grid
-
--- where memory is wanting before the first byte, nothing was written
-pub wants_nothing : (verb : Verb) (grid : Fraction) (output : List ℕ → Status → Type 0) (written : Option (List ℕ)) → Wants (Some (Reading verb grid)) output written written
-wants_nothing Trace grid output written = refl
-
 -- a source that was read out is so at each status
 pub read_out : (old new : Option (List ℕ)) (text : List ℕ) (status : Status) → IsReadWhole old new text → new ≡ option_map (drop most_read) old → IsReadOut old new status
 read_out old new text Clean read out = out

@@ -1,17 +1,16 @@
-ghost use Rattle.std.specs.Prelude.{◌≡◌, ℕ, List, [], Some, IfOk, IfErr, OnOk, flat_map, if◌then◌else◌};
+ghost use Rattle.std.specs.Prelude.{◌≡◌, ℕ, List, [], Some, IfOk, IfErr, OnOk, if◌then◌else◌};
 ghost use Rattle.std.specs.List.{list_any};
 ghost use Rattle.gx_fraction.specs.Fraction.{Fraction};
 ghost use Rattle.gx_io.specs.Bytes.{HasCause, Writes};
 ghost use Rattle.gx_check.specs.declared.verdict.Verdict.{Verdict as Given};
 ghost use Rattle.gx_check.specs.Gives.{IsCheckCause};
-ghost use Rattle.gx_check.specs.Verdicts.{verdicts, refutes, chosen, counts_of};
+ghost use Rattle.gx_check.specs.Verdicts.{verdicts, refutes, counts_of};
 ghost use Rattle.gx_print.specs.Range.{is_in_range};
 ghost use Rattle.gx_print.specs.Texts.{verdict_line};
 ghost use Rattle.g4exact.specs.declared.command.Command.TheVariants.{Reading};
 ghost use Rattle.g4exact.specs.declared.command.Verb.TheVariants.{Check};
-ghost use Rattle.g4exact.specs.declared.outcome.Status.{Status as Ended};
 ghost use Rattle.g4exact.specs.declared.outcome.Status.TheVariants.{Clean, Refuted};
-ghost use Rattle.g4exact.specs.Checked.{IsChecked};
+ghost use Rattle.g4exact.specs.Checked.{IsChecked, IsPrinted, verdict_lines};
 ghost use Rattle.g4exact.specs.Output.{IsWritten};
 ghost use Rattle.g4exact.specs.Ends.{Ends, Blames};
 
@@ -56,7 +55,7 @@ fn check_lent<'a, K: Sink, L: Loan>(
     requires same_reference { sink.ghost_name ≡ L.name }
     requires written { K.written sink.old ≡ L.written }
     ensures same_reference { result.1.ghost_name ≡ sink.entry.ghost_name }
-    ensures bytes { Writes (K.written sink.old) (K.written result.1.now) (flat_map (verdict_line tree.now) (chosen selection (verdicts tree.now))) result.0 }
+    ensures bytes { Writes (K.written sink.old) (K.written result.1.now) (verdict_lines selection tree.now) result.0 }
     ensures counts { IfOk result.0 (λ counts. counts ≡ counts_of (verdicts tree.now)) }
     ensures kept { OnOk result.0 (K.faults result.1.now ≡ K.faults sink.old) }
     ensures cause { IfErr result.0 (IsCheckCause (K.faults sink.old) (K.faults result.1.now)) }
@@ -82,7 +81,7 @@ fn print_verdicts<K: Sink>(
     selection: Selection,
     sink: &mut K,
 ) -> Result<Counts, CheckError>
-    ensures bytes { Writes (K.written sink.old) (K.written sink.new) (flat_map (verdict_line tree.now) (chosen selection (verdicts tree.now))) result }
+    ensures bytes { Writes (K.written sink.old) (K.written sink.new) (verdict_lines selection tree.now) result }
     ensures counts { IfOk result (λ counts. counts ≡ counts_of (verdicts tree.now)) }
     ensures kept { OnOk result (K.faults sink.new ≡ K.faults sink.old) }
     ensures cause { IfErr result (IsCheckCause (K.faults sink.old) (K.faults sink.new)) }
@@ -108,7 +107,7 @@ fn print_check<K: Sink>(
     selection: Selection,
     sink: &mut K,
 ) -> Result<Status, Failed>
-    ensures bytes { (whole : List ℕ) × (status : Ended) × IsChecked selection tree.now whole status × Writes (K.written sink.old) (K.written sink.new) whole result × IfOk result (λ told. told ≡ status) }
+    ensures bytes { IsPrinted selection tree.now (K.written sink.old) (K.written sink.new) result }
     ensures cause { HasCause (K.faults sink.old) (K.faults sink.new) result }
 {
     match print_verdicts(alloc, tree, selection, sink) {

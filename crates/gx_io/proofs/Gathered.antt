@@ -1,8 +1,8 @@
 -- A buffer before a sink: what is pending, and what the sink has.
-use Rattle.std.proofs.Common.{◌≡◌, ℕ, List, [], ◌++◌, length, take, drop, Option, None, Some, Result, Ok, Err, IfOk, OnOk, OnErr, refl, sym, ap, ◌∙◌, subst, arith, append_assoc, append-nil, take-append-drop, length-take}
+use Rattle.std.proofs.Common.{◌≡◌, ℕ, List, [], ◌++◌, length, take, drop, Option, None, Some, Result, Ok, Err, IfOk, OnOk, OnErr, refl, sym, ap, ◌∙◌, subst, arith, append_assoc, take-append-drop, length-take}
 use Rattle.std.proofs.Math.Seq.{drop-append_seam}
 use Rattle.std.proofs.lemmas.List.{take-append-le}
-use Rattle.gx_io.specs.Bytes.{with_after, AppendsBut, AppendsFront, Grows, Writes}
+use Rattle.gx_io.specs.Bytes.{with_after, AppendsBut, AppendsFront, Grows}
 use Rattle.gx_io.proofs.Joined.{with_after-twice, with_after-nothing}
 
 -- all is pending
@@ -38,7 +38,7 @@ grows-write start old new piece (Ok n) grows ok err = subst (Grows start) (sym o
 grows-write start old new piece (Err e) grows ok err = subst (Grows start) (sym err) grows
 
 -- Of a front that was gathered, a front was handed on.
-front-gathered : (old new : Option (List ℕ)) (pending whole : List ℕ) → Grows old new → AppendsFront old (with_after new pending) whole → AppendsFront old new whole
+pub front-gathered : (old new : Option (List ℕ)) (pending whole : List ℕ) → Grows old new → AppendsFront old (with_after new pending) whole → AppendsFront old new whole
 unfolding AppendsFront AppendsBut with_after
 front-gathered None None pending whole grows stopped = (whole, ([], refl, refl))
 front-gathered None (Some ys) pending whole grows stopped = absurd cc
@@ -55,16 +55,3 @@ front-gathered (Some xs) (Some ys) pending whole grows (rest, (front, parts, is)
 -- nothing is pending
 pub with_after-none : (told : Option (List ℕ)) (pending : List ℕ) → pending ≡ [] → with_after told pending ≡ told
 with_after-none told pending none = ap (with_after told) none ∙ with_after-nothing told
-
--- all was appended, whatever else is told
-pub writes-all : {T E : Type 0} (old new : Option (List ℕ)) (whole : List ℕ) (result : Result T E) → new ≡ with_after old whole → Writes old new whole result
-unfolding AppendsFront AppendsBut
-writes-all old new whole (Ok x) is = record { all = is; front = tt }
-writes-all old new whole (Err e) is = record { all = tt; front = ([], (whole, sym (append-nil whole), is)) }
-
--- what was written and gathered, where at the end all is handed on
-pub writes-handed : {T E : Type 0} (old new : Option (List ℕ)) (pending whole : List ℕ) (result : Result T E)
-    → Grows old new → Writes old (with_after new pending) whole result → OnOk result (pending ≡ []) → Writes old new whole result
-writes-handed old new pending whole (Ok x) grows h all =
-    record { all = sym (with_after-none new pending all) ∙ h.all; front = tt }
-writes-handed old new pending whole (Err e) grows h all = record { all = tt; front = front-gathered old new pending whole grows h.front }

@@ -1,3 +1,3 @@
-mod Gathered
+pub mod Gathered
 pub mod Joined
 mod Places

@@ -1,6 +1,3 @@
-ghost use Rattle.std.specs.Prelude.{◌≡◌, ◌++◌, length};
-ghost use Rattle.gx_io.specs.Bytes.{HasCause, Writes};
-
 use super::*;
 use std::alloc::Global;
 use std::io;
@@ -133,58 +130,31 @@ fn whole_texts_are_written_and_read(rt: HostRuntime) -> Result<(), Fail> {
     Ok(())
 }
 
-// Two texts, one behind the other, and how long they are.
-#[derive(Drop)]
-struct Two {
-    first: Vec<u8>,
-    second: Vec<u8>,
-}
-
-impl Print for Two {
-    type Answer = usize;
-
-    ghost prints = { λ two whole answer. (whole ≡ two.first.items ++ two.second.items) × (answer ≡ length whole) };
-
-    fn print<K: Sink>(&self, sink: &mut K) -> Result<usize, Failed> {
-        write_two(&self.first, &self.second, sink)?;
-        Ok(self.first.len() + self.second.len())
-    }
-}
-
-#[tactic(auto, using(crate::proofs::Joined::joined))]
-fn write_two<K: Sink>(first: &[u8], second: &[u8], sink: &mut K) -> Result<(), Failed>
-    ensures bytes { Writes (K.written sink.old) (K.written sink.new) (first.now ++ second.now) result }
-    ensures cause { HasCause (K.faults sink.old) (K.faults sink.new) result }
-{
-    write_all(sink, first)?;
-    write_all(sink, second)
-}
-
 #[test]
-fn what_is_printed_is_handed_on_in_large_pieces(rt: HostRuntime) -> Result<(), Fail> {
+fn a_buffer_hands_on_in_large_pieces(rt: HostRuntime) -> Result<(), Fail> {
     let alloc = rt.alloc();
     // the lengths of two texts, the write that fails, the answer, and how much the sink has
     let cases = [
-        (0, 0, 1, Ok(0), 0),
-        (40_000, 20_000, 2, Ok(60_000), 60_000),
-        (100_000, 50_000, 4, Ok(150_000), 150_000),
+        (0, 0, 1, Ok(()), 0),
+        (40_000, 20_000, 2, Ok(()), 60_000),
+        (100_000, 50_000, 4, Ok(()), 150_000),
         (100_000, 50_000, 3, Err(Failed), 131_072),
         (65_536, 65_536, 2, Err(Failed), 65_536),
         (0, 65_537, 2, Err(Failed), 65_536),
     ];
     for (first, second, fails, answer, written) in cases {
-        let mut sink = MemSink::new(alloc, 200_000, 100_000, [fails].to_vec(alloc)?)?;
-        let two = Two {
-            first: vec![in alloc; b'x'; first]?,
-            second: vec![in alloc; b'y'; second]?,
+        let sink = MemSink::new(alloc, 200_000, 100_000, [fails].to_vec(alloc)?)?;
+        let mut buffered = BufferedSink::new(Buffer::new(alloc)?, sink);
+        write_all(&mut buffered, &vec![in alloc; b'x'; first]?)?;
+        let second = write_all(&mut buffered, &vec![in alloc; b'y'; second]?);
+        let flushed = if second.is_ok() {
+            buffered.flush()
+        } else {
+            second
         };
-        let buffer = Buffer::new(alloc)?;
-        assert_eq!(rt;
-            print_buffered(buffer, &mut sink, &two),
-            answer,
-            "{first} {second}"
-        );
-        assert_eq!(rt; sink.written().len(), written, "{first} {second}");
+        assert_eq!(rt; flushed, answer, "{first} {written}");
+        let sink = buffered.into_inner();
+        assert_eq!(rt; sink.written().len(), written, "{first} {written}");
         assert_eq!(rt;
             sink.written().iter().filter(|b| **b == b'x').count(),
             first.min(written)

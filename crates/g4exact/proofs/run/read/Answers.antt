@@ -1,7 +1,8 @@
 use Rattle.std.proofs.Common.{Some, refl, ◌∙◌}
 use Rattle.g4exact.specs.declared.command.Command.TheVariants.{Reading}
-use Rattle.g4exact.specs.Output.{IsOutput}
-use Rattle.g4exact.proofs.Runs.{told, reads_all, same_output, wants_nothing, read_out, no_read_fault, blamed}
+use Rattle.gx_reader.specs.Reading.{reading}
+use Rattle.g4exact.proofs.Checks.{nothing_written}
+use Rattle.g4exact.proofs.Runs.{told, reads_all, same_output, read_out, no_read_fault, blamed}
 use Rattle.g4exact.proofs.run.read.Goals as goal
 
 pub returns-in-Ok-clause-output : goal.returns-in-Ok-clause-output
@@ -23,7 +24,7 @@ returns-in-Err-Failed-clause-output g c = let text = told (g.S.Source.left c.arg
 pub returns-in-Err-NoMemory-clause-output : goal.returns-in-Err-NoMemory-clause-output
 returns-in-Err-NoMemory-clause-output g c =
     let text = told (g.S.Source.left c.args.source.now) in
-    (text.0, text.1, wants_nothing c.args.verb c.args.grid.now (IsOutput (Some (Reading c.args.verb c.args.grid.now)) text.0) (g.K.Sink.written c.args.sink.now))
+    (text.0, text.1, nothing_written c.args.verb c.args.grid.now (reading c.args.grid.now text.0) (g.K.Sink.written c.args.sink.now))
 
 pub returns-in-Ok-clause-blames : goal.returns-in-Ok-clause-blames
 returns-in-Ok-clause-blames g c = blamed _ _ _ _ c.answer.result c.in-Ok.ensures.kept c.answer.ensures.blames
