@@ -21,7 +21,7 @@ use Rattle.g4exact.specs.declared.command.Command.TheVariants.{Reading}
 use Rattle.g4exact.specs.declared.command.Verb.{Verb}
 use Rattle.g4exact.specs.declared.command.Verb.TheVariants.{Trace}
 use Rattle.g4exact.specs.Output.{IsOutput, IsAnswer, IsWritten}
-use Rattle.g4exact.specs.Ends.{WritesAll, Wants, Ends, IsTold, Blames, HasFailed, Answers, IsReadOut, IsReadWhole, most_read}
+use Rattle.g4exact.specs.Ends.{WritesAll, Ends, IsTold, Blames, HasFailed, RunsTo, IsReadOut, IsReadWhole, most_read}
 
 -- some text is told
 pub told : (left : Option (List ℕ)) → (text : List ℕ) × IsTold left text
@@ -30,7 +30,7 @@ told (Some text) = (text, refl)
 
 -- what ends by its status, and blames by it, is complete where no device failed
 pub answered : (command : Option Command) (text : List ℕ) (old new : Option (List ℕ)) (s s' k k' : ℕ) (status : Status)
-    → Ends command (IsOutput command text) old new status → Blames s s' k k' status → Answers command text old new (HasFailed s s' k k') status
+    → Ends command (IsOutput command text) old new status → Blames s s' k k' status → RunsTo command text old new (HasFailed s s' k k') status
 answered command text old new s s' k k' status e b = record { ends = e; complete = complete status e b }
   where
     complete : (status : Status) → Ends command (IsOutput command text) old new status → Blames s s' k k' status → (HasFailed s s' k k' → ⊥) → WritesAll (IsOutput command text) old new status ⊎ (status ≡ NoMemory)

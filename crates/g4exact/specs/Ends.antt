@@ -1,14 +1,15 @@
 -- How a run ends: what it has read and written, by its status.
-use Rattle.std.specs.Prelude.{◌≡◌, ◌⊎◌, ℕ, ◌+◌, ◌<◌, ◌≤◌, List, length, drop, Option, None, Some, Result}
+use Rattle.std.specs.Prelude.{◌≡◌, ◌⊎◌, ℕ, ◌+◌, ◌<◌, ◌≤◌, List, length, drop, Option, None, Some, Result, Ok, Err}
 use Rattle.std.specs.Option.{option_map}
 use Rattle.std.specs.Io.KnownBytes.{IsAtEnd}
-use Rattle.gx_io.specs.Bytes.{with_after, with_before, next_fault, AppendsFront, Writes}
-use Rattle.gx_io.specs.declared.fault.Failed.{Failed}
-use Rattle.gx_link.specs.declared.input.Input.{Input}
+use Rattle.gx_io.specs.Bytes.{with_after, with_before, next_fault, AppendsFront}
+use Rattle.gx_io.specs.declared.error.IoError.{IoError}
+use Rattle.gx_io.specs.declared.error.IoError.TheVariants as io
 use Rattle.gx_reader.specs.declared.reader.TheConstants.{MAX_TEXT}
-use Rattle.g4exact.specs.Output.{IsTrace, IsOutput}
+use Rattle.g4exact.specs.Output.{IsOutput}
 use Rattle.g4exact.specs.declared.command.Command.{Command}
 use Rattle.g4exact.specs.declared.command.Command.TheVariants.{Reading}
+use Rattle.g4exact.specs.declared.command.Verb.{Verb}
 use Rattle.g4exact.specs.declared.command.Verb.TheVariants.{Trace, Check}
 use Rattle.g4exact.specs.declared.outcome.Status.{Status}
 use Rattle.g4exact.specs.declared.outcome.Status.TheVariants.{Clean, Refuted, TextFault, WordsFault, ReadFault, WriteFault, NoMemory}
@@ -26,22 +27,33 @@ WritesAll output old new status = (bytes : List ℕ) × output bytes status × (
 abbrev pub WritesFront : (List ℕ → Status → Type 0) → Option (List ℕ) → Option (List ℕ) → Type 0
 WritesFront output old new = (bytes : List ℕ) × (status : Status) × output bytes status × AppendsFront old new bytes
 
--- the whole trace of an input was written, or at an error a front of it
-abbrev pub WritesTrace : Input → Option (List ℕ) → Option (List ℕ) → Result (Unit {0}) Failed → Type 0
-WritesTrace input old new result = (bytes : List ℕ) × IsTrace input.tree 1 input.rays bytes × Writes old new bytes result
-
--- What was written where memory was wanting, by the command: a front of what `check` writes, which takes memory between two writes;
+-- What was written where memory was wanting, by the verb: a front of what `check` writes, which takes memory between two writes;
 -- else nothing, since all memory is taken before the first byte is written.
-abbrev pub Wants : Option Command → (List ℕ → Status → Type 0) → Option (List ℕ) → Option (List ℕ) → Type 0
-Wants None output old new = new ≡ old
-Wants (Some (Reading Trace grid)) output old new = new ≡ old
-Wants (Some (Reading (Check selection) grid)) output old new = WritesFront output old new
+abbrev pub Wants : Verb → (List ℕ → Status → Type 0) → Option (List ℕ) → Option (List ℕ) → Type 0
+Wants Trace output old new = new ≡ old
+Wants (Check selection) output old new = WritesFront output old new
+
+-- what a verb writes: all of the output, a front of it where the sink failed, or what was written where memory was wanting
+abbrev pub Answers : Verb → (List ℕ → Status → Type 0) → Option (List ℕ) → Option (List ℕ) → Result Status IoError → Type 0
+Answers verb output old new (Ok status) = WritesAll output old new status
+Answers verb output old new (Err io.Failed) = WritesFront output old new
+Answers verb output old new (Err io.NoMemory) = Wants verb output old new
+
+-- exactly one fault more where the sink failed, and else none
+abbrev pub HasIoCause : {A : Type 0} → ℕ → ℕ → Result A IoError → Type 0
+HasIoCause before now (Ok a) = now ≡ before
+HasIoCause before now (Err io.Failed) = now ≡ next_fault before
+HasIoCause before now (Err io.NoMemory) = now ≡ before
+
+abbrev pub WantsCommand : Option Command → (List ℕ → Status → Type 0) → Option (List ℕ) → Option (List ℕ) → Type 0
+WantsCommand None output old new = new ≡ old
+WantsCommand (Some (Reading verb grid)) output old new = Wants verb output old new
 
 -- All of the output is written at the statuses that tell it, a front of it at a write fault, and nothing at a read fault.
 abbrev pub Ends : Option Command → (List ℕ → Status → Type 0) → Option (List ℕ) → Option (List ℕ) → Status → Type 0
 Ends command output old new WriteFault = WritesFront output old new
 Ends command output old new ReadFault = new ≡ old
-Ends command output old new NoMemory = Wants command output old new
+Ends command output old new NoMemory = WantsCommand command output old new
 Ends command output old new status = WritesAll output old new status
 
 -- one byte past the most of a text
@@ -90,7 +102,7 @@ abbrev pub HasFailed : ℕ → ℕ → ℕ → ℕ → Type 0
 HasFailed source source' sink sink' = (source' ≡ next_fault source) ⊎ (sink' ≡ next_fault sink)
 
 -- What was written of a text's output is as the status tells; and where no device failed, it is all, unless memory was wanting.
-pub record Answers (command : Option Command) (text : List ℕ) (old new : Option (List ℕ)) (failed : Type 0) (status : Status) : Type 0 where
+pub record RunsTo (command : Option Command) (text : List ℕ) (old new : Option (List ℕ)) (failed : Type 0) (status : Status) : Type 0 where
   pub ends : Ends command (IsOutput command text) old new status
   pub complete : (failed → ⊥) → WritesAll (IsOutput command text) old new status ⊎ (status ≡ NoMemory)
 

@@ -1,4 +1,3 @@
-pub mod Checked
 pub mod Commands
 pub mod Ends
 pub mod Output

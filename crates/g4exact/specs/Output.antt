@@ -43,9 +43,13 @@ abbrev pub IsTraced : List Instance → Input → List ℕ → Status → Type 0
 IsTraced [] input bytes status = IsTrace input.tree 1 input.rays bytes × (status ≡ Clean)
 IsTraced (daughter ∷ daughters) input bytes status = IsFault (fault_at 0 0 NotBuilt) bytes status
 
--- the selected verdicts on a hierarchy, and the counts of all
+-- the lines of the selected verdicts on a hierarchy
+abbrev pub verdict_lines : Selection → Hierarchy → List ℕ
+verdict_lines selection h = flat_map (verdict_line h) (chosen selection (verdicts h))
+
+-- these, and the counts of all
 abbrev pub check_text : Selection → Hierarchy → List ℕ
-check_text selection h = flat_map (verdict_line h) (chosen selection (verdicts h)) ++ counts_line (counts_of (verdicts h))
+check_text selection h = verdict_lines selection h ++ counts_line (counts_of (verdicts h))
 
 -- some verdict refutes it, or none does
 abbrev pub checked_status : Hierarchy → Status

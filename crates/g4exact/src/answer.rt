@@ -1,20 +1,22 @@
-ghost use Rattle.std.specs.Prelude.{◌≡◌, ℕ, Some};
+ghost use Rattle.std.specs.Prelude.{◌≡◌, ℕ, [], Some, OnOk};
 ghost use Rattle.gx_fraction.specs.Fraction.{Fraction};
+ghost use Rattle.gx_io.specs.Bytes.{with_after};
 ghost use Rattle.g4exact.specs.declared.command.Command.TheVariants.{Reading};
 ghost use Rattle.g4exact.specs.Output.{IsAnswer};
-ghost use Rattle.g4exact.specs.Ends.{Ends, Blames};
+ghost use Rattle.g4exact.specs.Ends.{Ends, Blames, Answers, HasIoCause};
 
-use crate::check::check;
+use crate::check::write_check;
 use crate::command::Verb;
 use crate::fault::write_fault;
 use crate::outcome::Status;
-use crate::trace::trace;
+use crate::trace::write_trace;
 use gx_gather::TextFault;
-use gx_io::{Buffer, Sink};
+use gx_io::{Buffer, BufferedSink, IoError, Lent, Loan, Sink};
 use gx_link::Input;
 use std::alloc::Global;
+use std::marker::{Brand, PhantomData};
 
-/// Writes what was read of a text: the line of its fault; or where there is none, what the verb writes.
+/// Writes what was read of a text, in large pieces: the line of its fault; or where there is none, what the verb writes.
 pub fn answer<K: Sink>(
     alloc: Global,
     verb: Verb,
@@ -27,11 +29,70 @@ pub fn answer<K: Sink>(
     let Ok(buffer) = Buffer::new(alloc) else {
         return Status::NoMemory;
     };
+    let (written, _sink) = answer_lent::<K, Brand>(alloc, verb, read, buffer, sink);
+    match written {
+        Ok(status) => status,
+        Err(IoError::Failed) => Status::WriteFault,
+        Err(IoError::NoMemory) => Status::NoMemory,
+    }
+}
+
+// Writes it through a buffer, and gives the sink back.
+fn answer_lent<'a, K: Sink, L: Loan>(
+    alloc: Global,
+    verb: Verb,
+    read: Result<Input, TextFault>,
+    buffer: Buffer,
+    sink: &'a mut K,
+) -> (Result<Status, IoError>, &'a mut K)
+    requires empty { buffer ≡ [] }
+    requires same_reference { sink.ghost_name ≡ L.name }
+    requires written { K.written sink.old ≡ L.written }
+    ensures same_reference { result.1.ghost_name ≡ sink.entry.ghost_name }
+    ensures output { Answers verb (IsAnswer verb read) (K.written sink.old) (K.written result.1.now) result.0 }
+    ensures cause { HasIoCause (K.faults sink.old) (K.faults result.1.now) result.0 }
+{
+    let lent: Lent<'a, K, L> = Lent {
+        sink,
+        loan: PhantomData,
+    };
+    let mut buffered = BufferedSink::new(buffer, lent);
+    let result = answer_and_flush(alloc, verb, read, &mut buffered);
+    let Lent { sink, loan: _ } = buffered.into_inner();
+    (result, sink)
+}
+
+// Writes it, and hands all on.
+fn answer_and_flush<K: Sink + Drop>(
+    alloc: Global,
+    verb: Verb,
+    read: Result<Input, TextFault>,
+    buffered: &mut BufferedSink<K>,
+) -> Result<Status, IoError>
+    requires { buffered.old.buffer ≡ [] }
+    ensures output { Answers verb (IsAnswer verb read) (K.written buffered.old.inner) (with_after (K.written buffered.new.inner) buffered.new.buffer) result }
+    ensures all { OnOk result (buffered.new.buffer ≡ []) }
+    ensures cause { HasIoCause (K.faults buffered.old.inner) (K.faults buffered.new.inner) result }
+{
+    let status = write_answer(alloc, verb, read, buffered)?;
+    buffered.flush()?;
+    Ok(status)
+}
+
+fn write_answer<K: Sink>(
+    alloc: Global,
+    verb: Verb,
+    read: Result<Input, TextFault>,
+    sink: &mut K,
+) -> Result<Status, IoError>
+    ensures output { Answers verb (IsAnswer verb read) (K.written sink.old) (K.written sink.new) result }
+    ensures cause { HasIoCause (K.faults sink.old) (K.faults sink.new) result }
+{
     match read {
         Ok(input) => match verb {
-            Verb::Trace => trace(input, buffer, sink),
-            Verb::Check(selection) => check(alloc, selection, input, buffer, sink),
+            Verb::Trace => write_trace(&input, sink),
+            Verb::Check(selection) => write_check(alloc, selection, &input.tree, sink),
         },
-        Err(fault) => write_fault(fault, buffer, sink),
+        Err(fault) => write_fault(&fault, sink),
     }
 }

@@ -1,23 +1,19 @@
-ghost use Rattle.std.specs.Prelude.{◌≡◌, ℕ, List, [], Some, IfOk, IfErr, OnOk, if◌then◌else◌};
+ghost use Rattle.std.specs.Prelude.{◌≡◌, List, IfOk, IfErr, OnOk, if◌then◌else◌};
 ghost use Rattle.std.specs.List.{list_any};
-ghost use Rattle.gx_fraction.specs.Fraction.{Fraction};
-ghost use Rattle.gx_io.specs.Bytes.{HasCause, Writes};
+ghost use Rattle.gx_io.specs.Bytes.{Writes};
 ghost use Rattle.gx_check.specs.declared.verdict.Verdict.{Verdict as Given};
 ghost use Rattle.gx_check.specs.Gives.{IsCheckCause};
 ghost use Rattle.gx_check.specs.Verdicts.{verdicts, refutes, counts_of};
 ghost use Rattle.gx_print.specs.Range.{is_in_range};
 ghost use Rattle.gx_print.specs.Texts.{verdict_line};
-ghost use Rattle.g4exact.specs.declared.command.Command.TheVariants.{Reading};
 ghost use Rattle.g4exact.specs.declared.command.Verb.TheVariants.{Check};
 ghost use Rattle.g4exact.specs.declared.outcome.Status.TheVariants.{Clean, Refuted};
-ghost use Rattle.g4exact.specs.Checked.{IsChecked, IsPrinted, verdict_lines};
-ghost use Rattle.g4exact.specs.Output.{IsWritten};
-ghost use Rattle.g4exact.specs.Ends.{Ends, Blames};
+ghost use Rattle.g4exact.specs.Output.{verdict_lines, IsCheck};
+ghost use Rattle.g4exact.specs.Ends.{Answers, HasIoCause};
 
 use crate::outcome::Status;
 use gx_check::{CheckError, Counts, Selection, Verdict, Verdicts, check_tree};
-use gx_io::{Buffer, Failed, Lent, Loan, Print, Sink, print_buffered};
-use gx_link::Input;
+use gx_io::{Failed, IoError, Lent, Loan, Sink};
 use gx_print::{print_counts, print_verdict};
 use gx_tree::Hierarchy;
 use std::alloc::Global;
@@ -100,64 +96,22 @@ fn status_of(counts: &Counts) -> Status
     }
 }
 
-// Checks a hierarchy, and writes the selected verdicts and the counts.
-fn print_check<K: Sink>(
+/// Checks a hierarchy, and writes the selected verdicts and the counts. Memory is taken between two writes.
+pub fn write_check<K: Sink>(
     alloc: Global,
-    tree: &Hierarchy,
     selection: Selection,
+    tree: &Hierarchy,
     sink: &mut K,
-) -> Result<Status, Failed>
-    ensures bytes { IsPrinted selection tree.now (K.written sink.old) (K.written sink.new) result }
-    ensures cause { HasCause (K.faults sink.old) (K.faults sink.new) result }
+) -> Result<Status, IoError>
+    ensures output { Answers (Check selection) (IsCheck selection tree.now) (K.written sink.old) (K.written sink.new) result }
+    ensures cause { HasIoCause (K.faults sink.old) (K.faults sink.new) result }
 {
     match print_verdicts(alloc, tree, selection, sink) {
         Ok(counts) => {
             print_counts(&counts, sink)?;
             Ok(status_of(&counts))
         }
-        Err(CheckError::Out) => Err(Failed),
-        Err(CheckError::NoMemory) => Ok(Status::NoMemory),
-    }
-}
-
-// The check of an input's hierarchy.
-#[derive(Drop)]
-struct Checking {
-    alloc: Global,
-    selection: Selection,
-    input: Input,
-}
-
-impl Print for Checking {
-    type Answer = Status;
-
-    ghost prints = { λ c bytes status. IsChecked c.selection c.input.tree bytes status };
-
-    fn print<K: Sink>(&self, sink: &mut K) -> Result<Status, Failed> {
-        print_check(self.alloc, &self.input.tree, self.selection, sink)
-    }
-}
-
-/// Checks an input's hierarchy, and writes the selected verdicts and the counts, in large pieces. Memory is taken between two
-/// writes.
-pub fn check<K: Sink>(
-    alloc: Global,
-    selection: Selection,
-    input: Input,
-    buffer: Buffer,
-    sink: &mut K,
-) -> Status
-    requires { buffer ≡ [] }
-    ensures output { (grid : Fraction) → Ends (Some (Reading (Check selection) grid)) (IsWritten (Check selection) input) (K.written sink.old) (K.written sink.new) result }
-    ensures blames { (source : ℕ) → Blames source source (K.faults sink.old) (K.faults sink.new) result }
-{
-    let checking = Checking {
-        alloc,
-        selection,
-        input,
-    };
-    match print_buffered(buffer, sink, &checking) {
-        Ok(status) => status,
-        Err(Failed) => Status::WriteFault,
+        Err(CheckError::Out) => Err(IoError::Failed),
+        Err(CheckError::NoMemory) => Err(IoError::NoMemory),
     }
 }

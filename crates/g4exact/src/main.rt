@@ -16,7 +16,7 @@ mod words;
 ghost use Rattle.std.specs.Prelude.{◌≡◌, ◌<◌, ℕ, List, map, string_bytes};
 ghost use Rattle.g4exact.specs.Commands.{command_of};
 ghost use Rattle.g4exact.specs.declared.outcome.Status.TheVariants.{ReadFault};
-ghost use Rattle.g4exact.specs.Ends.{IsTold, IsRead, JudgesWords, Blames, HasFailed, Answers};
+ghost use Rattle.g4exact.specs.Ends.{IsTold, IsRead, JudgesWords, Blames, HasFailed, RunsTo};
 
 pub use command::{Command, Verb};
 use gx_io::{Sink, Source, StdSink, StdSource};
@@ -63,7 +63,7 @@ fn counted<S: Source, K: Sink, T: Ledger, Q: Ledger>(
     requires reads_parts { reads.parts ≡ Q.parts }
     requires some_reads { 0 < Q.parts }
     ensures output { (text : List ℕ) × IsTold (S.left source.old) text
-        × Answers (command_of (map string_bytes words.now)) text (K.written sink.old) (K.written sink.new)
+        × RunsTo (command_of (map string_bytes words.now)) text (K.written sink.old) (K.written sink.new)
         (HasFailed (S.faults source.old) (S.faults source.new) (K.faults sink.old) (K.faults sink.new)) result }
     ensures read { IsRead (command_of (map string_bytes words.now)) (S.left source.old) (S.left source.new) result }
     ensures words { JudgesWords (command_of (map string_bytes words.now)) result }

@@ -3,7 +3,7 @@ ghost use Rattle.g4exact.specs.Commands.{command_of};
 ghost use Rattle.g4exact.specs.Output.{IsOutput};
 ghost use Rattle.g4exact.specs.declared.command.Command.TheVariants.{Reading};
 ghost use Rattle.g4exact.specs.declared.outcome.Status.TheVariants.{ReadFault};
-ghost use Rattle.g4exact.specs.Ends.{Ends, IsTold, IsRead, JudgesWords, NamesWords, Blames, HasFailed, Answers};
+ghost use Rattle.g4exact.specs.Ends.{Ends, IsTold, IsRead, JudgesWords, NamesWords, Blames, HasFailed, RunsTo};
 
 use crate::answer::answer;
 use crate::command::{Command, Verb, command_from};
@@ -28,7 +28,7 @@ pub fn run<S: Source, K: Sink, T: Ledger, Q: Ledger>(
     // What is written is the output for the words and the source's bytes: all of it, a front of it, or nothing, by the status;
     // where neither count of faults is the next one, all of it, unless memory was wanting.
     ensures output { (text : List ℕ) × IsTold (S.left source.old) text
-        × Answers (command_of (map string_bytes words.now)) text (K.written sink.old) (K.written sink.new)
+        × RunsTo (command_of (map string_bytes words.now)) text (K.written sink.old) (K.written sink.new)
         (HasFailed (S.faults source.old) (S.faults source.new) (K.faults sink.old) (K.faults sink.new)) result }
 
     // What is read: nothing, or everything up to one byte past the most of a text; at a fault or for want of memory, some of that.

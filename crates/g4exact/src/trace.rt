@@ -7,16 +7,14 @@ ghost use Rattle.gx_tree.specs.Deepest.{path_along};
 ghost use Rattle.gx_path.specs.Report.{Row, IsReport};
 ghost use Rattle.gx_navigator.specs.Rows.{rows_of};
 ghost use Rattle.g4exact.specs.Output.{world_name, ray_text, IsTrace, IsWritten};
-ghost use Rattle.g4exact.specs.declared.command.Command.TheVariants.{Reading};
 ghost use Rattle.g4exact.specs.declared.command.Verb.TheVariants.{Trace};
-ghost use Rattle.gx_fraction.specs.Fraction.{Fraction};
-ghost use Rattle.g4exact.specs.Ends.{Ends, Blames, WritesTrace};
+ghost use Rattle.g4exact.specs.Ends.{Answers, HasIoCause};
 
 use crate::fault::write_fault;
 use crate::outcome::Status;
 use gx_clip::Span;
 use gx_gather::TextFault;
-use gx_io::{Buffer, Failed, Print, Sink, print_buffered};
+use gx_io::{Failed, IoError, Sink};
 use gx_link::Input;
 use gx_navigator::world_span;
 use gx_num::Ray;
@@ -61,7 +59,7 @@ fn print_report<K: Sink>(
 /// Writes each ray's head and report.
 fn print_reports<K: Sink>(input: &Input, sink: &mut K) -> Result<(), Failed>
     requires alone { instances input.now.tree input.now.tree.world ≡ [] }
-    ensures bytes { WritesTrace input.now (K.written sink.old) (K.written sink.new) result }
+    ensures bytes { (bytes : List ℕ) × IsTrace input.now.tree 1 input.now.rays bytes × Writes (K.written sink.old) (K.written sink.new) bytes result }
     ensures cause { HasCause (K.faults sink.old) (K.faults sink.new) result }
 {
     // What the world's solid keeps is known from here on.
@@ -72,23 +70,6 @@ fn print_reports<K: Sink>(input: &Input, sink: &mut K) -> Result<(), Failed>
     Ok(())
 }
 
-// The reports of an input's rays, whose world has no daughters.
-#[derive(Drop)]
-struct Reports {
-    input: Input,
-    ghost alone: { instances input.tree input.tree.world ≡ [] },
-}
-
-impl Print for Reports {
-    type Answer = ();
-
-    ghost prints = { λ reports bytes _. IsTrace reports.input.tree 1 reports.input.rays bytes };
-
-    fn print<K: Sink>(&self, sink: &mut K) -> Result<(), Failed> {
-        print_reports(&self.input, sink)
-    }
-}
-
 // The world has no daughters.
 fn is_alone(tree: &Hierarchy) -> bool
     ensures alone { result ≡ true → instances tree.now tree.now.world ≡ [] }
@@ -97,11 +78,10 @@ fn is_alone(tree: &Hierarchy) -> bool
     tree.instances(tree.world()) == 0
 }
 
-/// Writes the reports of an input's rays, in large pieces. A hierarchy whose world has daughters isn't traced yet.
-pub fn trace<K: Sink>(input: Input, buffer: Buffer, sink: &mut K) -> Status
-    requires { buffer ≡ [] }
-    ensures output { (grid : Fraction) → Ends (Some (Reading Trace grid)) (IsWritten Trace input) (K.written sink.old) (K.written sink.new) result }
-    ensures blames { (source : ℕ) → Blames source source (K.faults sink.old) (K.faults sink.new) result }
+/// Writes the reports of an input's rays. A hierarchy whose world has daughters isn't traced yet.
+pub fn write_trace<K: Sink>(input: &Input, sink: &mut K) -> Result<Status, IoError>
+    ensures output { Answers Trace (IsWritten Trace input.now) (K.written sink.old) (K.written sink.new) result }
+    ensures cause { HasIoCause (K.faults sink.old) (K.faults sink.new) result }
 {
     if !is_alone(&input.tree) {
         let fault = TextFault {
@@ -109,10 +89,8 @@ pub fn trace<K: Sink>(input: Input, buffer: Buffer, sink: &mut K) -> Status
             word: 0,
             name: FaultName::NotBuilt,
         };
-        return write_fault(fault, buffer, sink);
+        return write_fault(&fault, sink);
     }
-    match print_buffered(buffer, sink, &Reports { input }) {
-        Ok(()) => Status::Clean,
-        Err(Failed) => Status::WriteFault,
-    }
+    print_reports(input, sink)?;
+    Ok(Status::Clean)
 }
