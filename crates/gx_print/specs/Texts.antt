@@ -4,6 +4,7 @@ use Rattle.std.specs.Option.{option_map, unwrap_or}
 use Rattle.std.specs.Fmt.{signed_decimal}
 use Rattle.gx_num.specs.declared.vector.V3.{V3}
 use Rattle.gx_num.specs.Ray.{RayParameter}
+use Rattle.gx_num.specs.Space.{HalfSpace}
 use Rattle.gx_num.specs.Vector4.{Vec4}
 use Rattle.gx_path.specs.Report.{Row}
 use Rattle.gx_table.specs.Faults.{text_of}
@@ -40,6 +41,10 @@ row_text world row = fraction_text row.from ++ codes " " ++ fraction_text row.to
 abbrev pub fault_line : TextFault → List ℕ
 fault_line fault = codes "fault " ++ decimal fault.line ++ codes " " ++ decimal fault.word ++ codes " " ++ text_of fault.name ++ codes "\n"
 
+-- a text behind what parts it from the one before
+unfoldable pub after : List ℕ → List ℕ → List ℕ
+after before text = before ++ text
+
 -- ---- verdicts
 
 abbrev pub volume_name : Hierarchy → ℕ → List ℕ
@@ -47,36 +52,39 @@ volume_name h v = (volume_at h.volumes v).name
 
 -- a daughter: `NAME@ORDINAL:COPY`
 abbrev pub instance_text : Hierarchy → ℕ → Instance → List ℕ
-instance_text h k i = volume_name h i.volume ++ codes "@" ++ decimal k ++ codes ":" ++ signed_decimal i.copy
+instance_text h k i = volume_name h i.volume ++ after (codes "@") (decimal k) ++ after (codes ":") (signed_decimal i.copy)
 
 -- the one of this ordinal in a mother
 unfoldable pub daughter_text : Hierarchy → ℕ → ℕ → List ℕ
 daughter_text h mother k = unwrap_or (option_map (instance_text h k) (slice_get (instances h mother) k)) []
 
 -- `MOTHER DAUGHTER`
-abbrev pub in_mother : Hierarchy → ℕ → ℕ → List ℕ
+unfoldable pub in_mother : Hierarchy → ℕ → ℕ → List ℕ
 in_mother h mother k = volume_name h mother ++ codes " " ++ daughter_text h mother k
 
 -- `MOTHER A B`
-abbrev pub pair_text : Hierarchy → ℕ → ℕ → ℕ → List ℕ
+unfoldable pub pair_text : Hierarchy → ℕ → ℕ → ℕ → List ℕ
 pair_text h mother first second = in_mother h mother first ++ codes " " ++ daughter_text h mother second
 
 -- ` X Y Z`
-abbrev pub vector_text : V3 → List ℕ
-vector_text v = codes " " ++ signed_decimal v.x ++ codes " " ++ signed_decimal v.y ++ codes " " ++ signed_decimal v.z
+unfoldable pub vector_text : V3 → List ℕ
+vector_text v = after (codes " ") (signed_decimal v.x) ++ after (codes " ") (signed_decimal v.y) ++ after (codes " ") (signed_decimal v.z)
+
+-- ` NX NY NZ E`, the plane n.x = e
+unfoldable pub plane_text : HalfSpace → List ℕ
+plane_text plane = vector_text plane.n ++ after (codes " ") (signed_decimal plane.e)
 
 -- ` X:Y:Z:W`, the point (X/W, Y/W, Z/W)
-abbrev pub point_text : Vec4 → List ℕ
-point_text p = codes " " ++ signed_decimal p.x ++ codes ":" ++ signed_decimal p.y ++ codes ":" ++ signed_decimal p.z ++ codes ":" ++ signed_decimal p.w
+unfoldable pub point_text : Vec4 → List ℕ
+point_text p = after (codes " ") (signed_decimal p.x) ++ after (codes ":") (signed_decimal p.y) ++ after (codes ":") (signed_decimal p.z) ++ after (codes ":") (signed_decimal p.w)
 
--- `in MOTHER DAUGHTER`, `out MOTHER DAUGHTER X Y Z`, `apart MOTHER A B NX NY NZ E` with the plane n.x = e, or `overlap MOTHER A B` and each point
+-- `in MOTHER DAUGHTER`, `out MOTHER DAUGHTER X Y Z`, `apart MOTHER A B NX NY NZ E`, or `overlap MOTHER A B` and each point
 abbrev pub verdict_line : Hierarchy → Verdict → List ℕ
 verdict_line h (Inner mother k) = codes "in " ++ in_mother h mother k ++ codes "\n"
 verdict_line h (Outer mother k point) = codes "out " ++ in_mother h mother k ++ vector_text point ++ codes "\n"
-verdict_line h (Apart mother first second plane) =
-    codes "apart " ++ pair_text h mother first second ++ vector_text plane.n ++ codes " " ++ signed_decimal plane.e ++ codes "\n"
+verdict_line h (Apart mother first second plane) = codes "apart " ++ pair_text h mother first second ++ plane_text plane ++ codes "\n"
 verdict_line h (Overlap mother first second points) = codes "overlap " ++ pair_text h mother first second ++ flat_map point_text points ++ codes "\n"
 
 -- `checked D daughters P pairs R refuted`
 abbrev pub counts_line : Counts → List ℕ
-counts_line c = codes "checked " ++ decimal c.daughters ++ codes " daughters " ++ decimal c.pairs ++ codes " pairs " ++ decimal c.refuted ++ codes " refuted\n"
+counts_line c = after (codes "checked ") (decimal c.daughters) ++ after (codes " daughters ") (decimal c.pairs) ++ after (codes " pairs ") (decimal c.refuted) ++ codes " refuted\n"

@@ -1,5 +1,5 @@
-ghost use Rattle.std.specs.Prelude.{◌++◌};
 ghost use Rattle.gx_io.specs.Bytes.{HasCause, Writes};
+ghost use Rattle.gx_print.specs.Texts.{after};
 
 use gx_io::{Failed, Sink, write_all};
 use itoa::{Buffer, Integer};
@@ -13,13 +13,13 @@ pub fn write_number<K: Sink, N: Integer>(sink: &mut K, number: N) -> Result<(), 
 }
 
 /// Writes a number behind some text.
-#[tactic(auto, using(gx_io::proofs::Joined::joined))]
+#[tactic(auto, using(gx_io::proofs::Joined::joined), unfolding(crate::specs::Texts::after))]
 pub fn write_after<K: Sink, N: Integer>(
     sink: &mut K,
     before: &[u8],
     number: N,
 ) -> Result<(), Failed>
-    ensures bytes { Writes (K.written sink.old) (K.written sink.new) (before.now ++ N.text number) result }
+    ensures bytes { Writes (K.written sink.old) (K.written sink.new) (after before.now (N.text number)) result }
     ensures cause { HasCause (K.faults sink.old) (K.faults sink.new) result }
 {
     write_all(sink, before)?;

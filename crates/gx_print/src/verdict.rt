@@ -1,17 +1,18 @@
-ghost use Rattle.std.specs.Prelude.{◌≡◌, ◌++◌, ◌<◌, IsTrue, codes, flat_map, length};
+ghost use Rattle.std.specs.Prelude.{◌++◌, ◌<◌, IsTrue, codes, decimal, flat_map, length};
 ghost use Rattle.std.specs.Fmt.{signed_decimal};
 ghost use Rattle.gx_io.specs.Bytes.{HasCause, Writes};
 ghost use Rattle.gx_tree.specs.Hierarchy.{instances};
 ghost use Rattle.gx_print.specs.Range.{is_in_range};
-ghost use Rattle.gx_print.specs.Texts.{verdict_line, counts_line, daughter_text, in_mother, pair_text, vector_text, point_text};
+ghost use Rattle.gx_print.specs.Texts.{verdict_line, counts_line, after, daughter_text, in_mother, pair_text, vector_text, plane_text, point_text};
 
-use crate::number::{write_after, write_number};
+use crate::number::write_after;
 use gx_check::{Counts, Verdict};
 use gx_common::Points;
 use gx_io::{Failed, Sink, write_all};
 use gx_num::{Hp, V3};
 use gx_plane::Plane;
 use gx_tree::Hierarchy;
+use itoa::Integer;
 
 /// Writes the line of a verdict on this hierarchy.
 pub fn print_verdict<K: Sink>(
@@ -50,7 +51,14 @@ pub fn print_counts<K: Sink>(counts: &Counts, sink: &mut K) -> Result<(), Failed
     ensures bytes { Writes (K.written sink.old) (K.written sink.new) (counts_line counts.now) result }
     ensures cause { HasCause (K.faults sink.old) (K.faults sink.new) result }
 {
-    write_counts(sink, b"checked ", b" daughters ", b" pairs ", b" refuted\n", counts)
+    write_counts(
+        sink,
+        b"checked ",
+        b" daughters ",
+        b" pairs ",
+        b" refuted\n",
+        counts,
+    )
 }
 
 // The words of lines are parameters, so that proofs join a line from its parts, and not from bytes.
@@ -65,7 +73,7 @@ fn write_counts<K: Sink>(
     counts: &Counts,
 ) -> Result<(), Failed>
     ensures bytes { Writes (K.written sink.old) (K.written sink.new)
-        (checked.now ++ decimal counts.now.daughters ++ daughters.now ++ decimal counts.now.pairs ++ pairs.now ++ decimal counts.now.refuted ++ refuted.now) result }
+        (after checked.now (decimal counts.now.daughters) ++ after daughters.now (decimal counts.now.pairs) ++ after pairs.now (decimal counts.now.refuted) ++ refuted.now) result }
     ensures cause { HasCause (K.faults sink.old) (K.faults sink.new) result }
 {
     write_after(sink, checked, counts.daughters)?;
@@ -87,7 +95,8 @@ fn write_inner<K: Sink>(
     ensures bytes { Writes (K.written sink.old) (K.written sink.new) (head.now ++ in_mother tree.now mother ordinal ++ codes "\n") result }
     ensures cause { HasCause (K.faults sink.old) (K.faults sink.new) result }
 {
-    write_in_mother(sink, head, tree, mother, ordinal)?;
+    write_all(sink, head)?;
+    write_in_mother(sink, tree, mother, ordinal)?;
     write_all(sink, b"\n")
 }
 
@@ -105,8 +114,9 @@ fn write_outer<K: Sink>(
     ensures bytes { Writes (K.written sink.old) (K.written sink.new) (head.now ++ in_mother tree.now mother ordinal ++ vector_text point.now ++ codes "\n") result }
     ensures cause { HasCause (K.faults sink.old) (K.faults sink.new) result }
 {
-    write_in_mother(sink, head, tree, mother, ordinal)?;
-    write_vector(sink, b" ", point)?;
+    write_all(sink, head)?;
+    write_in_mother(sink, tree, mother, ordinal)?;
+    write_vector(sink, point)?;
     write_all(sink, b"\n")
 }
 
@@ -124,12 +134,12 @@ fn write_apart<K: Sink>(
     requires first { first < length (instances tree.now mother) }
     requires second { second < length (instances tree.now mother) }
     ensures bytes { Writes (K.written sink.old) (K.written sink.new)
-        (head.now ++ pair_text tree.now mother first second ++ vector_text plane.now.n ++ codes " " ++ signed_decimal plane.now.e ++ codes "\n") result }
+        (head.now ++ pair_text tree.now mother first second ++ plane_text plane.now ++ codes "\n") result }
     ensures cause { HasCause (K.faults sink.old) (K.faults sink.new) result }
 {
-    write_pair(sink, head, tree, mother, first, second)?;
-    write_vector(sink, b" ", &plane.n())?;
-    write_after(sink, b" ", plane.e())?;
+    write_all(sink, head)?;
+    write_pair(sink, tree, mother, first, second)?;
+    write_plane(sink, plane)?;
     write_all(sink, b"\n")
 }
 
@@ -150,15 +160,15 @@ fn write_overlap<K: Sink>(
         (head.now ++ pair_text tree.now mother first second ++ flat_map point_text points.now ++ codes "\n") result }
     ensures cause { HasCause (K.faults sink.old) (K.faults sink.new) result }
 {
-    write_pair(sink, head, tree, mother, first, second)?;
+    write_all(sink, head)?;
+    write_pair(sink, tree, mother, first, second)?;
     write_points(sink, points)?;
     write_all(sink, b"\n")
 }
 
-#[tactic(auto, using(gx_io::proofs::Joined::joined))]
+#[tactic(auto, using(gx_io::proofs::Joined::joined), unfolding(crate::specs::Texts::pair_text))]
 fn write_pair<K: Sink>(
     sink: &mut K,
-    head: &[u8],
     tree: &Hierarchy,
     mother: u32,
     first: u32,
@@ -167,33 +177,32 @@ fn write_pair<K: Sink>(
     requires mother { mother < length tree.now.volumes }
     requires first { first < length (instances tree.now mother) }
     requires second { second < length (instances tree.now mother) }
-    ensures bytes { Writes (K.written sink.old) (K.written sink.new) (head.now ++ pair_text tree.now mother first second) result }
+    ensures bytes { Writes (K.written sink.old) (K.written sink.new) (pair_text tree.now mother first second) result }
     ensures cause { HasCause (K.faults sink.old) (K.faults sink.new) result }
 {
-    write_in_mother(sink, head, tree, mother, first)?;
+    write_in_mother(sink, tree, mother, first)?;
     write_all(sink, b" ")?;
     write_daughter(sink, tree, mother, second)
 }
 
-#[tactic(auto, using(gx_io::proofs::Joined::joined))]
+#[tactic(auto, using(gx_io::proofs::Joined::joined), unfolding(crate::specs::Texts::in_mother))]
 fn write_in_mother<K: Sink>(
     sink: &mut K,
-    head: &[u8],
     tree: &Hierarchy,
     mother: u32,
     ordinal: u32,
 ) -> Result<(), Failed>
     requires mother { mother < length tree.now.volumes }
     requires ordinal { ordinal < length (instances tree.now mother) }
-    ensures bytes { Writes (K.written sink.old) (K.written sink.new) (head.now ++ in_mother tree.now mother ordinal) result }
+    ensures bytes { Writes (K.written sink.old) (K.written sink.new) (in_mother tree.now mother ordinal) result }
     ensures cause { HasCause (K.faults sink.old) (K.faults sink.new) result }
 {
-    write_all(sink, head)?;
     write_all(sink, tree.name(mother))?;
     write_all(sink, b" ")?;
     write_daughter(sink, tree, mother, ordinal)
 }
 
+#[tactic(auto, unfolding(crate::specs::Texts::daughter_text))]
 fn write_daughter<K: Sink>(
     sink: &mut K,
     tree: &Hierarchy,
@@ -211,7 +220,7 @@ fn write_daughter<K: Sink>(
 
 #[tactic(auto, using(gx_io::proofs::Joined::joined))]
 fn write_copy<K: Sink>(sink: &mut K, name: &[u8], ordinal: u32, copy: i32) -> Result<(), Failed>
-    ensures bytes { Writes (K.written sink.old) (K.written sink.new) (name.now ++ codes "@" ++ decimal ordinal ++ codes ":" ++ signed_decimal copy) result }
+    ensures bytes { Writes (K.written sink.old) (K.written sink.new) (name.now ++ after (codes "@") (decimal ordinal) ++ after (codes ":") (signed_decimal copy)) result }
     ensures cause { HasCause (K.faults sink.old) (K.faults sink.new) result }
 {
     write_all(sink, name)?;
@@ -219,16 +228,38 @@ fn write_copy<K: Sink>(sink: &mut K, name: &[u8], ordinal: u32, copy: i32) -> Re
     write_after(sink, b":", copy)
 }
 
-// ` X Y Z`
-#[tactic(auto, using(gx_io::proofs::Joined::joined))]
-fn write_vector<K: Sink>(sink: &mut K, blank: &[u8], v: &V3) -> Result<(), Failed>
-    ensures bytes { Writes (K.written sink.old) (K.written sink.new)
-        (blank.now ++ signed_decimal v.now.x ++ blank.now ++ signed_decimal v.now.y ++ blank.now ++ signed_decimal v.now.z) result }
+#[tactic(auto, unfolding(crate::specs::Texts::vector_text))]
+fn write_vector<K: Sink>(sink: &mut K, v: &V3) -> Result<(), Failed>
+    ensures bytes { Writes (K.written sink.old) (K.written sink.new) (vector_text v.now) result }
     ensures cause { HasCause (K.faults sink.old) (K.faults sink.new) result }
 {
-    write_after(sink, blank, v.x)?;
-    write_after(sink, blank, v.y)?;
-    write_after(sink, blank, v.z)
+    write_three(sink, b" ", b" ", v.x, v.y, v.z)
+}
+
+#[tactic(auto, using(gx_io::proofs::Joined::joined))]
+fn write_three<K: Sink, N: Integer>(
+    sink: &mut K,
+    first: &[u8],
+    next: &[u8],
+    x: N,
+    y: N,
+    z: N,
+) -> Result<(), Failed>
+    ensures bytes { Writes (K.written sink.old) (K.written sink.new) (after first.now (N.text x) ++ after next.now (N.text y) ++ after next.now (N.text z)) result }
+    ensures cause { HasCause (K.faults sink.old) (K.faults sink.new) result }
+{
+    write_after(sink, first, x)?;
+    write_after(sink, next, y)?;
+    write_after(sink, next, z)
+}
+
+#[tactic(auto, using(gx_io::proofs::Joined::joined), unfolding(crate::specs::Texts::plane_text))]
+fn write_plane<K: Sink>(sink: &mut K, plane: &Plane) -> Result<(), Failed>
+    ensures bytes { Writes (K.written sink.old) (K.written sink.new) (plane_text plane.now) result }
+    ensures cause { HasCause (K.faults sink.old) (K.faults sink.new) result }
+{
+    write_vector(sink, &plane.n())?;
+    write_after(sink, b" ", plane.e())
 }
 
 fn write_points<K: Sink>(sink: &mut K, points: &Points) -> Result<(), Failed>
@@ -236,25 +267,32 @@ fn write_points<K: Sink>(sink: &mut K, points: &Points) -> Result<(), Failed>
     ensures cause { HasCause (K.faults sink.old) (K.faults sink.new) result }
 {
     for i in 0..points.count() {
-        write_point(sink, b" ", b":", &points.at(i))?;
+        write_point(sink, &points.at(i))?;
     }
     Ok(())
 }
 
-// ` X:Y:Z:W`
-#[tactic(auto, using(gx_io::proofs::Joined::joined))]
-fn write_point<K: Sink>(
-    sink: &mut K,
-    blank: &[u8],
-    colon: &[u8],
-    point: &Hp,
-) -> Result<(), Failed>
-    ensures bytes { Writes (K.written sink.old) (K.written sink.new)
-        (blank.now ++ signed_decimal point.now.x ++ colon.now ++ signed_decimal point.now.y ++ colon.now ++ signed_decimal point.now.z ++ colon.now ++ signed_decimal point.now.w) result }
+#[tactic(auto, unfolding(crate::specs::Texts::point_text))]
+fn write_point<K: Sink>(sink: &mut K, point: &Hp) -> Result<(), Failed>
+    ensures bytes { Writes (K.written sink.old) (K.written sink.new) (point_text point.now) result }
     ensures cause { HasCause (K.faults sink.old) (K.faults sink.new) result }
 {
-    write_after(sink, blank, point.x())?;
-    write_after(sink, colon, point.y())?;
-    write_after(sink, colon, point.z())?;
-    write_after(sink, colon, point.w())
+    write_four(sink, b" ", b":", point.x(), point.y(), point.z(), point.w())
+}
+
+#[tactic(auto, using(gx_io::proofs::Joined::joined))]
+fn write_four<K: Sink, N: Integer>(
+    sink: &mut K,
+    first: &[u8],
+    next: &[u8],
+    x: N,
+    y: N,
+    z: N,
+    w: N,
+) -> Result<(), Failed>
+    ensures bytes { Writes (K.written sink.old) (K.written sink.new) (after first.now (N.text x) ++ after next.now (N.text y) ++ after next.now (N.text z) ++ after next.now (N.text w)) result }
+    ensures cause { HasCause (K.faults sink.old) (K.faults sink.new) result }
+{
+    write_three(sink, first, next, x, y, z)?;
+    write_after(sink, next, w)
 }
