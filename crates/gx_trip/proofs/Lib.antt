@@ -1,0 +1,10 @@
+pub mod Cells
+pub mod Crowd
+pub mod Declared
+pub mod Formed
+pub mod Linked
+pub mod Names
+pub mod Placed
+pub mod ReadInput
+pub mod Steps
+pub mod Tree
