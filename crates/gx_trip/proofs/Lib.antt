@@ -2,6 +2,7 @@ pub mod Cells
 pub mod Crowd
 pub mod Declared
 pub mod Formed
+pub mod Gathers
 pub mod Linked
 pub mod Names
 pub mod Placed
