@@ -33,7 +33,7 @@ placements_in-append m ps qs =
 daughters_in-append : (m : ℕ) (ps qs : List LinkedPlacement) → daughters_in m (ps ++ qs) ≡ daughters_in m ps + daughters_in m qs
 daughters_in-append m ps qs = ap (sum_by copies_of) (placements_in-append m ps qs) ∙ sum_by-append copies_of (placements_in m ps) (placements_in m qs)
 
-daughters-append : (ps qs : List LinkedPlacement) → daughters (ps ++ qs) ≡ daughters ps + daughters qs
+pub daughters-append : (ps qs : List LinkedPlacement) → daughters (ps ++ qs) ≡ daughters ps + daughters qs
 daughters-append ps qs = sum_by-append (λ (p : LinkedPlacement). copies_of p.placement) ps qs
 
 daughters_in-other : (m : ℕ) (p : LinkedPlacement) → (p.mother ≡ m → ⊥) → daughters_in m (p ∷ []) ≡ 0

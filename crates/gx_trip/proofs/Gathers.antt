@@ -192,7 +192,7 @@ module _ (turns : Table Matrix) (rays : List Ray) (volumes : List Volume) where
       ∙ (λ i. gathered (state turns (append_assoc items (item_of volumes one ∷ []) (map (item_of volumes) (lines_in (number + 1) m ps)) i) rays) (at i) rest)
 
   -- the number after the lines of these mothers
-  abbrev after : ℕ → List Volume → ℕ
+  abbrev pub after : ℕ → List Volume → ℕ
   after number [] = number
   after number (v ∷ vs) = after (number + length v.placements) vs
 

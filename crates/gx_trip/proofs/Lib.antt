@@ -1,3 +1,4 @@
+pub mod Again
 pub mod Cells
 pub mod Crowd
 pub mod Declared
@@ -7,5 +8,7 @@ pub mod Linked
 pub mod Names
 pub mod Placed
 pub mod ReadInput
+pub mod Resolved
+pub mod RoundTrip
 pub mod Steps
 pub mod Tree
