@@ -1,6 +1,6 @@
 -- The canonical text of an input that was read, read again.
-use Rattle.std.proofs.Common.{◌≡◌, ℕ, ◌+◌, ◌≤◌, refl, sym, ◌∙◌, ap, arith, false, List, [], ◌∷◌, ◌++◌, length, append_assoc, append-nil, map, Result, Ok}
-use Rattle.std.specs.Prelude.{nat_lt, sum_by, count_by}
+use Rattle.std.proofs.Common.{◌≡◌, ℕ, ◌+◌, ◌≤◌, refl, ◌∙◌, ap, arith, List, [], ◌∷◌, ◌++◌, length, append_assoc, append-nil, map, Result, Ok}
+use Rattle.std.specs.Prelude.{nat_lt}
 use Rattle.std.specs.List.{range_with_len}
 use Rattle.std.proofs.lemmas.Bool.{le-ltb, cond-false}
 use Rattle.std.proofs.lemmas.List.Elements.{filter_map-append}
@@ -11,9 +11,7 @@ use Rattle.gx_form.specs.First.{◌>>=◌}
 use Rattle.gx_text.specs.Lines.{cut}
 use Rattle.gx_tree.specs.Volume.{Volume}
 use Rattle.gx_tree.specs.Hierarchy.{Hierarchy}
-use Rattle.gx_tree.specs.Limits.{instance_count}
 use Rattle.gx_tree.specs.Fault.{IsTree}
-use Rattle.gx_decl.specs.declared.declaration.Declaration.{Declaration}
 use Rattle.gx_decl.specs.declared.declaration.Declaration.TheVariants as line
 use Rattle.gx_gather.specs.declared.fault.TextFault.{TextFault}
 use Rattle.gx_gather.specs.declared.item.Item.{Item}
@@ -24,14 +22,14 @@ use Rattle.gx_link.specs.declared.input.Input.{Input}
 use Rattle.gx_link.specs.declared.link.LinkedPlacement.{LinkedPlacement}
 use Rattle.gx_link.specs.Links.{Links, links_of, known_of}
 use Rattle.gx_link.specs.Text.{tree_of, input_of}
-use Rattle.gx_canon.specs.Canonical.{rotation_name, is_used, turns, volume_declared, placements, declarations_of, canonical, millimetre}
+use Rattle.gx_canon.specs.Canonical.{is_used, turns, volume_declared, placements, declarations_of, canonical, millimetre}
 use Rattle.gx_canon.specs.Laws.{DeclarationsBack, TextBack, RotationsBack}
 use Rattle.gx_reader.specs.declared.reader.TheConstants.{MAX_TEXT}
 use Rattle.gx_reader.specs.Reading.{input_from, text_lines, reading}
 use Rattle.gx_trip.proofs.Names.{AreNew}
 use Rattle.gx_trip.proofs.Crowd.{none_crowded}
 use Rattle.gx_trip.proofs.ReadInput.{volume_names_of, IsReadInput}
-use Rattle.gx_trip.proofs.Gathers.{gathered, text_gathered, turns_new, state, turns_of, turns_gathered, volume_items, volumes_gathered, lines_of, item_of, after, placements_gathered, rays_gathered}
+use Rattle.gx_trip.proofs.Gathers.{gathered, text_gathered, turns_new, state, turns_gathered, volume_items, volumes_gathered, lines_of, item_of, after, placements_gathered, rays_gathered}
 use Rattle.gx_trip.proofs.Resolved.{volume_lines, links, volumes_linked, names-volume_items, names-items, turn_numbers, turns_named, placements_linked, in_mothers, placements_at, volumes_back, lines_uncrowded, few_lines}
 
 no_placements : (number : ℕ) (vs : List Volume) → placement_count (volume_items number vs) ≡ 0
@@ -82,7 +80,7 @@ module _ (rotations : RotationsBack) (h : Hierarchy) (rays : List Ray) (tree : I
   all_linked =
       volumes_linked (known_of declared) (map (item_of volumes) lines) [] volumes [] first
       ∙ placements_linked volumes (known_of declared) refl names (turns_new rotations volumes) named (volume_lines first volumes) lines []
-          (in_mothers volumes second 0 volumes (omega arith) tree.limits.placeable (rotations.named h tree))
+      (in_mothers volumes second 0 volumes (omega arith) tree.limits.placeable (rotations.named h tree))
 
   tree_again : tree_of (links (volume_lines first volumes) lines) ≡ Ok h
   tree_again =

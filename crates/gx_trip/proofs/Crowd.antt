@@ -1,5 +1,5 @@
 -- Counts of daughters: where no line is one too many, volumes are within the limits of a hierarchy, and the other way round.
-use Rattle.std.proofs.Common.{◌≡◌, ℕ, suc, ◌+◌, ◌<◌, ◌≤◌, sym, ◌∙◌, ap, subst, inl, inr, refl, arith, Bool, true, false, nat_eq, List, [], ◌∷◌, ◌++◌, length, map, All, Option, Some, None, if◌then◌else◌, append_assoc, append-nil, eq-eqb}
+use Rattle.std.proofs.Common.{◌≡◌, ℕ, suc, ◌+◌, ◌<◌, ◌≤◌, sym, ◌∙◌, ap, subst, inl, inr, refl, arith, Bool, true, false, nat_eq, List, [], ◌∷◌, ◌++◌, length, map, All, Some, None, if◌then◌else◌, append_assoc, append-nil, eq-eqb}
 use Rattle.std.specs.Prelude.{sum_by, nat_lt}
 use Rattle.std.proofs.lemmas.Bool.{cases_eq, ne_eqb, or_parts, or_from, le-ltb, ltb-false}
 use Rattle.std.proofs.lemmas.List.{map-append}

@@ -1,14 +1,12 @@
 -- What is kept of all that the lines of a text declare: names are words and new, scales and parameters are in lowest terms, and
 -- numbers are in their ranges.
-use Rattle.std.proofs.Common.{◌≡◌, ℕ, ◌+◌, ◌<◌, ◌≤◌, Bool, true, false, refl, sym, ◌∙◌, ap, subst, arith, if◌then◌else◌, List, [], ◌∷◌, ◌++◌, length, length-append, append-nil, All, Option, None, Some, Result, Ok, Err}
+use Rattle.std.proofs.Common.{◌≡◌, ℕ, ◌+◌, ◌<◌, ◌≤◌, Bool, true, false, refl, ◌∙◌, ap, subst, arith, if◌then◌else◌, List, [], ◌∷◌, ◌++◌, length, length-append, append-nil, All, Option, None, Some, Result, Ok, Err}
 use Rattle.std.specs.Prelude.{nat_le, is_some}
 use Rattle.std.proofs.lemmas.Bool.{leb-false}
-use Rattle.std.proofs.lemmas.List.Elements.{All-nil, All-push, filter_map-append}
+use Rattle.std.proofs.lemmas.List.Elements.{All-push, filter_map-append}
 use Rattle.gx_num.specs.declared.ray.Ray.{Ray}
 use Rattle.gx_fraction.specs.Fraction.{Fraction}
 use Rattle.gx_form.specs.declared.fault.Fault.{Fault}
-use Rattle.gx_form.specs.First.{◌>>=◌}
-use Rattle.gx_table.specs.declared.fault.FaultName.TheVariants.{TooMany, TooManyRays}
 use Rattle.gx_text.specs.TextLine.{TextLine}
 use Rattle.gx_text.specs.Lines.{ended}
 use Rattle.gx_text.specs.declared.lines.LineFault.{LineFault}
@@ -21,10 +19,8 @@ use Rattle.gx_shapes.specs.Accepted.{IsSolid}
 use Rattle.gx_tree.specs.Hierarchy.{IsRotation}
 use Rattle.gx_decl.specs.declared.declaration.Declaration.{Declaration}
 use Rattle.gx_decl.specs.declared.declaration.Declaration.TheVariants as line
-use Rattle.gx_decl.specs.declared.declaration.Form.{Form}
 use Rattle.gx_decl.specs.Decl.{declared_of}
 use Rattle.gx_decl.specs.Range.{IsForm, IsTraceable}
-use Rattle.gx_gather.specs.declared.fault.TextFault.{TextFault}
 use Rattle.gx_gather.specs.declared.item.Item.{Item}
 use Rattle.gx_gather.specs.declared.item.Item.TheVariants.{Volume, Place}
 use Rattle.gx_gather.specs.declared.item.Shape.{Shape}
@@ -34,8 +30,7 @@ use Rattle.gx_gather.specs.declared.rays.TheConstants.{MAX_RAYS}
 use Rattle.gx_gather.specs.Faults.{on_line}
 use Rattle.gx_gather.specs.Items.{name_of, volume_names, placement_count}
 use Rattle.gx_gather.specs.Table.{Table, name_fault, entered}
-use Rattle.gx_gather.specs.Declarations.{Declarations, fault_at, with_params, with_volume, with_placement, with_ray, with_declaration, declare}
-use Rattle.gx_canon.specs.Text.{IsWord}
+use Rattle.gx_gather.specs.Declarations.{Declarations, with_params, with_volume, with_declaration}
 use Rattle.gx_canon.specs.Printable.{IsLowestFraction, AreLowest, HasLowestScales, HasCopy, IsKept, IsNameWord}
 use Rattle.gx_canon.specs.Laws.{WordsAreWords, Kept}
 use Rattle.gx_reader.specs.Reading.{with_line, read_lines}
@@ -54,15 +49,21 @@ abbrev pub IsItemKept : Item → Type 0
 IsItemKept (Volume line name shape material) = IsNameWord name × IsShapeKept shape × IsNameWord material
 IsItemKept (Place line volume mother rotation form) = IsForm form × HasCopy form
 
+pub record AreItemsKept (items : List Item) : Type 0 where
+  pub each : All IsItemKept items
+  pub names : AreNew [] (volume_names items)
+  pub few : length (volume_names items) ≤ MAX_VOLUMES
+
+pub record AreRaysKept (rays : List Ray) : Type 0 where
+  pub each : All IsTraceable rays
+  pub few : length rays ≤ MAX_RAYS
+
 pub record AreKept (d : Declarations) : Type 0 where
   pub params : AreLowest d.params
   pub solids : All IsFigureKept d.solids.values
   pub turns : All IsRotation d.turns.values
-  pub items : All IsItemKept d.items
-  pub names : AreNew [] (volume_names d.items)
-  pub few_names : length (volume_names d.items) ≤ MAX_VOLUMES
-  pub rays : All IsTraceable d.rays
-  pub few_rays : length d.rays ≤ MAX_RAYS
+  pub items : AreItemsKept d.items
+  pub rays : AreRaysKept d.rays
 
 -- ---- parameters
 
@@ -106,16 +107,12 @@ one_volume d e number name shape material are named shaped made_of is =
     let none = unless-ok (name_fault MAX_VOLUMES (volume_names d.items) name) _ e is in
     let new = name_fault-none MAX_VOLUMES (volume_names d.items) name none.0 in
     let names : volume_names (d.items ++ item ∷ []) ≡ volume_names d.items ++ name ∷ [] = filter_map-append name_of d.items (item ∷ []) in
-    subst AreKept none.1 (record {
-      params = are.params;
-      solids = are.solids;
-      turns = are.turns;
-      items = All-push IsItemKept d.items item are.items (named, shaped, made_of);
-      names = rw names (new_push [] (volume_names d.items) name are.names new.0);
-      few_names = rw names (omega (arith, new.1, length-append (volume_names d.items) (name ∷ [])));
-      rays = are.rays;
-      few_rays = are.few_rays;
-    })
+    let items : AreItemsKept (d.items ++ item ∷ []) = record {
+      each = All-push IsItemKept d.items item are.items.each (named, shaped, made_of);
+      names = rw names (new_push [] (volume_names d.items) name are.items.names new.0);
+      few = rw names (omega (arith, new.1, length-append (volume_names d.items) (name ∷ [])));
+    } in
+    subst AreKept none.1 (record { params = are.params; solids = are.solids; turns = are.turns; items = items; rays = are.rays })
 
 -- ---- one line more
 
@@ -127,29 +124,11 @@ module _ (d e : Declarations) (number : ℕ) (are : AreKept d) where
       param_kept None at is = absurd cc
       param_kept (Some params) at is =
           let same : record d { params = params; param_lines = d.param_lines + 1 } ≡ e = (let free = (otherwise (nat_le MAX_PARAMS d.param_lines) _ _ e is).1 in cc) in
-          subst AreKept same (record {
-            params = given_lowest d.params params name value (value_of_name d.params name) are.params kept.1 at;
-            solids = are.solids;
-            turns = are.turns;
-            items = are.items;
-            names = are.names;
-            few_names = are.few_names;
-            rays = are.rays;
-            few_rays = are.few_rays;
-          })
+          subst AreKept same (record { params = given_lowest d.params params name value (value_of_name d.params name) are.params kept.1 at; solids = are.solids; turns = are.turns; items = are.items; rays = are.rays })
   with_kept (line.Solid name figure) kept is =
       let s = steps (entered MAX_SOLIDS d.solids name figure) (λ (solids : Table Figure). Ok (record d { solids = solids })) e is in
       let same : record d { solids = s.first } ≡ e = (let made = s.rest in cc) in
-      subst AreKept same (record {
-        params = are.params;
-        solids = entered-kept IsFigureKept MAX_SOLIDS d.solids s.first name figure are.solids (record { solid = kept.0.1; scales = kept.1 }) s.is;
-        turns = are.turns;
-        items = are.items;
-        names = are.names;
-        few_names = are.few_names;
-        rays = are.rays;
-        few_rays = are.few_rays;
-      })
+      subst AreKept same (record { params = are.params; solids = entered-kept IsFigureKept MAX_SOLIDS d.solids s.first name figure are.solids (record { solid = kept.0.1; scales = kept.1 }) s.is; turns = are.turns; items = are.items; rays = are.rays })
   with_kept (line.Volume name figure material) kept is =
       one_volume d e number name (Own figure) material are (record { named = kept.0.0; word = kept.1.0 }) (record { solid = kept.0.1; scales = kept.1.1 }) (record { named = kept.0.2; word = kept.1.2 }) is
   with_kept (line.Named name solid material) kept is =
@@ -158,42 +137,17 @@ module _ (d e : Declarations) (number : ℕ) (are : AreKept d) where
       let item = Place number volume mother rotation form in
       let same : record d { items = d.items ++ item ∷ [] } ≡ e = (let free = (otherwise (nat_le MAX_PLACEMENTS (placement_count d.items)) _ _ e is).1 in cc) in
       let names : volume_names (d.items ++ item ∷ []) ≡ volume_names d.items = filter_map-append name_of d.items (item ∷ []) ∙ append-nil (volume_names d.items) in
-      subst AreKept same (record {
-        params = are.params;
-        solids = are.solids;
-        turns = are.turns;
-        items = All-push IsItemKept d.items item are.items (kept.0.formed, kept.1);
-        names = rw names are.names;
-        few_names = rw names are.few_names;
-        rays = are.rays;
-        few_rays = are.few_rays;
-      })
+      let items : AreItemsKept (d.items ++ item ∷ []) = record { each = All-push IsItemKept d.items item are.items.each (kept.0.formed, kept.1); names = rw names are.items.names; few = rw names are.items.few } in
+      subst AreKept same (record { params = are.params; solids = are.solids; turns = are.turns; items = items; rays = are.rays })
   with_kept (line.Turn name matrix) kept is =
       let s = steps (entered MAX_TURNS d.turns name matrix) (λ (turns : Table Matrix). Ok (record d { turns = turns })) e is in
       let same : record d { turns = s.first } ≡ e = (let made = s.rest in cc) in
-      subst AreKept same (record {
-        params = are.params;
-        solids = are.solids;
-        turns = entered-kept IsRotation MAX_TURNS d.turns s.first name matrix are.turns kept.0.1 s.is;
-        items = are.items;
-        names = are.names;
-        few_names = are.few_names;
-        rays = are.rays;
-        few_rays = are.few_rays;
-      })
+      subst AreKept same (record { params = are.params; solids = are.solids; turns = entered-kept IsRotation MAX_TURNS d.turns s.first name matrix are.turns kept.0.1 s.is; items = are.items; rays = are.rays })
   with_kept (line.Trace ray) kept is =
       let free = otherwise (nat_le MAX_RAYS (length d.rays)) _ _ e is in
       let same : record d { rays = d.rays ++ ray ∷ [] } ≡ e = (let made = free.1 in cc) in
-      subst AreKept same (record {
-        params = are.params;
-        solids = are.solids;
-        turns = are.turns;
-        items = are.items;
-        names = are.names;
-        few_names = are.few_names;
-        rays = All-push IsTraceable d.rays ray are.rays kept.0;
-        few_rays = omega (arith, leb-false MAX_RAYS (length d.rays) free.0, length-append d.rays (ray ∷ []));
-      })
+      let rays : AreRaysKept (d.rays ++ ray ∷ []) = record { each = All-push IsTraceable d.rays ray are.rays.each kept.0; few = omega (arith, leb-false MAX_RAYS (length d.rays) free.0, length-append d.rays (ray ∷ [])) } in
+      subst AreKept same (record { params = are.params; solids = are.solids; turns = are.turns; items = are.items; rays = rays })
   with_kept line.Passed kept is = let same : d ≡ e = cc in subst AreKept same are
 
 -- ---- all lines

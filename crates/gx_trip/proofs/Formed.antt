@@ -34,7 +34,6 @@ none_in test a (suc n) e k from below = elim (cases_Bool (test a)) [
 none_found : (test : ℕ → Bool) (n : ℕ) → find test (range_with_len 0 n) ≡ None → (k : ℕ) → k < n → test k ≡ false
 none_found test n e k below = none_in test 0 n e k (omega arith) (omega arith)
 
-
 -- ---- chains of placements
 leads-itself : (volumes : List Volume) (v : ℕ) → leads volumes 0 v v ≡ true
 unfolding leads

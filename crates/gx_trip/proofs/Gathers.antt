@@ -1,6 +1,6 @@
 -- The lines of a canonical text, gathered: its rotations by their names, the lines of volumes and placements, and the rays.
-use Rattle.std.proofs.Common.{◌≡◌, ℕ, zero, suc, ◌+◌, ◌<◌, ◌≤◌, inl, inr, refl, sym, ◌∙◌, ap, subst, arith, Bool, true, false, List, [], ◌∷◌, ◌++◌, length, length-append, append_assoc, append-nil, map, flat_map, All, Option, None, Some, Result, Ok, Err}
-use Rattle.std.specs.Prelude.{filter, filter_map, nat_le, is_some, sum_by}
+use Rattle.std.proofs.Common.{◌≡◌, ℕ, zero, suc, ◌+◌, ◌<◌, ◌≤◌, inl, inr, refl, sym, ◌∙◌, ap, subst, arith, Bool, false, List, [], ◌∷◌, ◌++◌, length, length-append, append_assoc, append-nil, map, flat_map, All, Option, None, Result, Ok, Err}
+use Rattle.std.specs.Prelude.{filter, sum_by}
 use Rattle.std.specs.List.{range_with_len}
 use Rattle.std.specs.Option.{option_map}
 use Rattle.std.specs.Str.{bytes_eq}
@@ -31,7 +31,7 @@ use Rattle.gx_gather.specs.declared.gathered.TheConstants.{MAX_TURNS, MAX_VOLUME
 use Rattle.gx_gather.specs.declared.rays.TheConstants.{MAX_RAYS}
 use Rattle.gx_gather.specs.Faults.{on_line}
 use Rattle.gx_gather.specs.Items.{name_of, is_placement, volume_names, placement_count}
-use Rattle.gx_gather.specs.Table.{Table, empty, name_fault, unless}
+use Rattle.gx_gather.specs.Table.{Table, empty, name_fault}
 use Rattle.gx_gather.specs.Declarations.{Declarations, with_declaration}
 use Rattle.gx_link.specs.declared.link.LinkedPlacement.{LinkedPlacement}
 use Rattle.gx_canon.specs.Text.{read_from, lines_from}
@@ -88,10 +88,10 @@ module _ (back : RotationsBack) where
       let more : All (λ j. j < a + 1) before = All-weaker (λ j. j < a) (λ j. j < a + 1) (λ j h. omega arith) before all in
       elim (cases_Bool (test a)) [
         | inl passes ↦ rw passes (
-            absent (map rotation_name before) (rotation_name a) (All-map (λ n. bytes_eq (rotation_name a) n ≡ false) rotation_name before (All-weaker (λ j. j < a) (λ j. bytes_eq (rotation_name a) (rotation_name j) ≡ false) (λ j h. apart j a h (omega arith)) before all)),
-            subst (λ (ns : List (List ℕ)). AreNew ns (map rotation_name (filter test (range_with_len (a + 1) n)))) (map-append rotation_name before (a ∷ []))
-                (new_from test (before ++ a ∷ []) (a + 1) n (omega arith) (All-push (λ j. j < a + 1) before a more (omega arith))),
-          )
+          absent (map rotation_name before) (rotation_name a) (All-map (λ n. bytes_eq (rotation_name a) n ≡ false) rotation_name before (All-weaker (λ j. j < a) (λ j. bytes_eq (rotation_name a) (rotation_name j) ≡ false) (λ j h. apart j a h (omega arith)) before all)),
+          subst (λ (ns : List (List ℕ)). AreNew ns (map rotation_name (filter test (range_with_len (a + 1) n)))) (map-append rotation_name before (a ∷ []))
+              (new_from test (before ++ a ∷ []) (a + 1) n (omega arith) (All-push (λ j. j < a + 1) before a more (omega arith))),
+        )
         | inr fails ↦ rw fails (new_from test before (a + 1) n (omega arith) more)
       ]
 
@@ -213,7 +213,7 @@ module _ (turns : Table Matrix) (rays : List Ray) (volumes : List Volume) where
       ∙ (λ i. gathered (state turns items rays) number (map (placed volumes (at i)) ps ++ (flat_map of_mother vs ++ rest)))
       ∙ mother_gathered m (flat_map of_mother vs ++ rest) ps items number (omega (arith, counts))
       ∙ placements_gathered rest vs (front ++ v ∷ []) (items ++ map f here) (number + length ps) (m + 1) (same ∙ sym (append_assoc front (v ∷ []) vs)) (omega (arith, length-append front (v ∷ [])))
-          (omega (arith, counts, placement_count-append items (map f here), placement_count-items volumes here, length-lines_in number m ps))
+      (omega (arith, counts, placement_count-append items (map f here), placement_count-items volumes here, length-lines_in number m ps))
       ∙ (λ i. gathered (state turns ((append_assoc items (map f here) (map f later) ∙ ap (λ (more : List Item). items ++ more) (sym (map-append f here later))) i) rays) (after (number + length ps) vs) rest)
 
 -- ---- rays

@@ -1,5 +1,5 @@
 -- What is kept of lines whose names are resolved.
-use Rattle.std.proofs.Common.{◌≡◌, ℕ, ◌+◌, ◌<◌, refl, sym, ◌∙◌, ap, subst, arith, ℤ, List, [], ◌∷◌, ◌++◌, length, map, All, Option, None, Some, Result, Ok, Err, append_assoc, append-nil, bytes_eq}
+use Rattle.std.proofs.Common.{◌≡◌, ℕ, ◌<◌, refl, sym, ◌∙◌, ap, subst, arith, ℤ, List, [], ◌∷◌, ◌++◌, length, map, All, Option, None, Some, Result, Ok, append_assoc, append-nil, bytes_eq}
 use Rattle.std.specs.Prelude.{slice_get}
 use Rattle.std.specs.Option.{option_and_then}
 use Rattle.std.proofs.lemmas.List.{map-append}

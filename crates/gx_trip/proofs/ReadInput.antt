@@ -30,7 +30,7 @@ use Rattle.gx_reader.specs.declared.reader.TheConstants.{MAX_TEXT}
 use Rattle.gx_reader.specs.Reading.{text_lines, input_from, reading}
 use Rattle.gx_trip.proofs.Names.{AreNew}
 use Rattle.gx_trip.proofs.Steps.{steps, otherwise}
-use Rattle.gx_trip.proofs.Declared.{IsFigureKept, AreKept, lines_kept}
+use Rattle.gx_trip.proofs.Declared.{IsFigureKept, IsItemKept, AreKept, lines_kept}
 use Rattle.gx_trip.proofs.Linked.{IsVolumeKept, IsPlacedKept, AreLinksKept, names_of, lines_linked}
 use Rattle.gx_trip.proofs.Crowd.{each_in, within_limits}
 use Rattle.gx_trip.proofs.Tree.{is_tree, own_volumes}
@@ -46,7 +46,6 @@ pub record IsReadInput (input : Input) : Type 0 where
   pub few_rays : length input.rays ≤ MAX_RAYS
 
 -- ---- volumes with what is placed in them
-
 
 each_volume : (P : Volume → Type 0) (ps : List LinkedPlacement) → ((u : LinkedVolume) (m : ℕ) → IsVolumeKept u → P (record { name = u.name; solid = u.solid; material = u.material; placements = placements_in m ps })) → (v : ℕ) (us : List LinkedVolume) → All IsVolumeKept us → All P (volumes_from ps v us)
 each_volume P ps says v [] all = All-nil P
@@ -117,11 +116,8 @@ nothing_kept = record {
   params = All-nil _;
   solids = All-nil IsFigureKept;
   turns = All-nil IsRotation;
-  items = All-nil _;
-  names = tt;
-  few_names = omega arith;
-  rays = All-nil IsTraceable;
-  few_rays = omega arith;
+  items = record { each = All-nil IsItemKept; names = tt; few = omega arith };
+  rays = record { each = All-nil IsTraceable; few = omega arith };
 }
 
 of_declarations : (d : Declarations) (input : Input) → AreKept d → input_of d ≡ Ok input → IsReadInput input
@@ -130,15 +126,15 @@ of_declarations d input are e =
     let s = steps (links_of d) (λ (links : Links). tree_of links >>= made) input e in
     let t = steps (tree_of s.first) made input s.rest in
     let names = volume_names d.items in
-    let linked = lines_linked (known_of d) are.solids are.turns [] no_links s.first d.items are.items (record { named = refl; volumes = All-nil IsVolumeKept; placements = All-nil (IsPlacedKept (length names)) }) s.is in
-    let read = read_tree s.first names (omega (arith, are.few_names)) linked t.first t.is in
+    let linked = lines_linked (known_of d) are.solids are.turns [] no_links s.first d.items are.items.each (record { named = refl; volumes = All-nil IsVolumeKept; placements = All-nil (IsPlacedKept (length names)) }) s.is in
+    let read = read_tree s.first names (omega (arith, are.items.few)) linked t.first t.is in
     let same : record { tree = t.first; rays = d.rays } ≡ input = (let is = t.rest in cc) in
     subst IsReadInput same (record {
       tree = read.tree;
       printable = read.printable;
-      named = subst (AreNew []) (sym read.named) are.names;
-      traceable = are.rays;
-      few_rays = are.few_rays;
+      named = subst (AreNew []) (sym read.named) are.items.names;
+      traceable = are.rays.each;
+      few_rays = are.rays.few;
     })
 
 pub read_input : Kept → WordsAreWords → (grid : Fraction) (text : List ℕ) (input : Input) → reading grid text ≡ Ok input → IsReadInput input

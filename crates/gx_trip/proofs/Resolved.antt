@@ -1,15 +1,15 @@
 -- The names in the lines of a canonical text, resolved: volumes and placements are those that were printed.
-use Rattle.std.proofs.Common.{◌≡◌, ℕ, zero, suc, ◌+◌, ◌<◌, ◌≤◌, inl, inr, refl, sym, ◌∙◌, ap, subst, arith, true, false, nat_eq, List, [], ◌∷◌, ◌++◌, length, append_assoc, append-nil, map, get_or, All, Contains, Option, None, Some, Result, Ok, Err, eq-eqb}
+use Rattle.std.proofs.Common.{◌≡◌, ℕ, zero, suc, ◌+◌, ◌<◌, ◌≤◌, inl, inr, refl, sym, ◌∙◌, ap, arith, List, [], ◌∷◌, ◌++◌, length, append_assoc, append-nil, map, get_or, All, Contains, Option, Some, Result, Ok, eq-eqb}
 use Rattle.std.specs.Prelude.{sum_by, filter}
 use Rattle.std.specs.List.{range_with_len}
 use Rattle.std.specs.Option.{option_map}
 use Rattle.std.proofs.Math.Nat.{mul-le-mul}
 use Rattle.std.proofs.lemmas.Bool.{cases_lt, ne_eqb}
-use Rattle.std.proofs.lemmas.List.{length-map, get_or-map, get_or_past, map-append}
-use Rattle.std.proofs.lemmas.List.Elements.{All-nil, All-cons, All-head, All-tail, All-append, filter_map-append}
+use Rattle.std.proofs.lemmas.List.{length-map, get_or-map, get_or_past}
+use Rattle.std.proofs.lemmas.List.Elements.{All-nil, All-cons, All-head, All-tail, All-append}
 use Rattle.std.proofs.lemmas.List.Sums.{sum_by-cons}
 use Rattle.gx_form.specs.First.{◌>>=◌}
-use Rattle.gx_table.specs.declared.fault.FaultName.TheVariants.{NoVolume, NoRotation}
+use Rattle.gx_table.specs.declared.fault.FaultName.TheVariants.{NoRotation}
 use Rattle.gx_names.specs.Names.{number_of}
 use Rattle.gx_rotation.specs.Matrix.{Matrix}
 use Rattle.gx_rotation.specs.Rotation.{matrix_of}
@@ -17,19 +17,19 @@ use Rattle.gx_rotation.specs.Rotation as rotation
 use Rattle.gx_tree.specs.declared.placement.Placement.{Placement}
 use Rattle.gx_tree.specs.declared.placement.Placement.TheVariants as placement
 use Rattle.gx_tree.specs.Volume.{Volume, daughter_of, copies_of, rotation_of}
-use Rattle.gx_tree.specs.Hierarchy.{Hierarchy, volume_at}
+use Rattle.gx_tree.specs.Hierarchy.{volume_at}
 use Rattle.gx_tree.specs.Limits.{IsInRange, IsPlaceable, IsWithinLimits, instance_count}
 use Rattle.gx_decl.specs.declared.declaration.Declaration.{Declaration}
 use Rattle.gx_decl.specs.declared.declaration.Declaration.TheVariants.{Turn}
 use Rattle.gx_gather.specs.declared.fault.TextFault.{TextFault}
 use Rattle.gx_gather.specs.declared.item.Item.{Item}
 use Rattle.gx_gather.specs.Table.{Table, value_of}
-use Rattle.gx_gather.specs.Items.{name_of, volume_names}
+use Rattle.gx_gather.specs.Items.{volume_names}
 use Rattle.gx_link.specs.declared.known.Known.{Known}
 use Rattle.gx_link.specs.declared.link.LinkedVolume.{LinkedVolume}
 use Rattle.gx_link.specs.declared.link.LinkedPlacement.{LinkedPlacement}
 use Rattle.gx_link.specs.Crowd.{placements_in}
-use Rattle.gx_link.specs.Links.{Links, found, matrix_at_word, mother_word, turn_word, placement_of, linked_with, linked_from}
+use Rattle.gx_link.specs.Links.{Links, found, matrix_at_word, turn_word, placement_of, linked_with, linked_from}
 use Rattle.gx_link.specs.Text.{volumes_from}
 use Rattle.gx_canon.specs.Canonical.{rotation_name, rotation_number, form_of, is_used, turns}
 use Rattle.gx_canon.specs.Laws.{IsNamed}
@@ -167,15 +167,15 @@ placements_at [] k number m = refl
 placements_at (v ∷ vs) k number zero =
     let at : k + 0 ≡ k = omega arith in
     rw at (
-      placements_in-append k (lines_in number k v.placements) (lines_of (number + length v.placements) (k + 1) vs)
-      ∙ (λ i. own k number v.placements i ++ later k (k + 1) (number + length v.placements) vs (omega arith) i)
-      ∙ append-nil v.placements
+    placements_in-append k (lines_in number k v.placements) (lines_of (number + length v.placements) (k + 1) vs)
+    ∙ (λ i. own k number v.placements i ++ later k (k + 1) (number + length v.placements) vs (omega arith) i)
+    ∙ append-nil v.placements
     )
 placements_at (v ∷ vs) k number (suc m) =
     let at : k + suc m ≡ (k + 1) + m = omega arith in
     rw at (
-      placements_in-append ((k + 1) + m) (lines_in number k v.placements) (lines_of (number + length v.placements) (k + 1) vs)
-      ∙ (λ i. others ((k + 1) + m) k number v.placements (λ e. omega arith) i ++ placements_at vs (k + 1) (number + length v.placements) m i)
+    placements_in-append ((k + 1) + m) (lines_in number k v.placements) (lines_of (number + length v.placements) (k + 1) vs)
+    ∙ (λ i. others ((k + 1) + m) k number v.placements (λ e. omega arith) i ++ placements_at vs (k + 1) (number + length v.placements) m i)
     )
 
 pub volumes_back : (ps : List LinkedPlacement) (vs : List Volume) (v number : ℕ) → ((m : ℕ) → placements_in (v + m) ps ≡ (volume_at vs m).placements) → volumes_from ps v (volume_lines number vs) ≡ vs

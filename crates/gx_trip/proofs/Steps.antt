@@ -1,5 +1,5 @@
 -- What comes of steps that may fail came of each of them.
-use Rattle.std.proofs.Common.{◌≡◌, ℕ, Bool, true, false, refl, if◌then◌else◌, Option, None, Some, Result, Ok, Err}
+use Rattle.std.proofs.Common.{◌≡◌, Bool, true, false, refl, if◌then◌else◌, Option, None, Some, Result, Ok, Err}
 use Rattle.gx_form.specs.First.{◌>>=◌}
 use Rattle.gx_form.specs.declared.fault.Fault.{Fault}
 use Rattle.gx_gather.specs.Table.{unless}
