@@ -25,7 +25,7 @@ near_coordinate axis bound v within =
     let P : ℤ → Type 0 = λ z. unsigned_abs z ≤ bound in
     cond_both (nat_eq axis 0) v.x _ P (λ _. within.x) (λ _. cond_both (nat_eq axis 1) v.y v.z P (λ _. within.y) (λ _. within.z))
 
-within_along : (axis bound : ℕ) (at : ℤ) → unsigned_abs at ≤ bound → IsWithin bound (along axis at)
+pub within_along : (axis bound : ℕ) (at : ℤ) → unsigned_abs at ≤ bound → IsWithin bound (along axis at)
 within_along axis bound at near =
     let P : ℤ → Type 0 = λ z. unsigned_abs z ≤ bound in
     let none : P (pos 0) = omega arith in

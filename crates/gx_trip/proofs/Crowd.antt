@@ -3,7 +3,7 @@ use Rattle.std.proofs.Common.{◌≡◌, ℕ, suc, ◌+◌, ◌<◌, ◌≤◌, 
 use Rattle.std.specs.Prelude.{sum_by, nat_lt}
 use Rattle.std.proofs.lemmas.Bool.{cases_eq, ne_eqb, or_parts, or_from, le-ltb, ltb-false}
 use Rattle.std.proofs.lemmas.List.{map-append}
-use Rattle.std.proofs.lemmas.List.Elements.{All-nil, All-cons, All-filter, All-map, filter-append}
+use Rattle.std.proofs.lemmas.List.Elements.{All-nil, All-cons, All-head, All-tail, All-filter, All-map, filter-append}
 use Rattle.std.proofs.lemmas.List.Sums.{sum_by-cons, sum_by-append}
 use Rattle.gx_tree.specs.declared.placement.Placement.{Placement}
 use Rattle.gx_tree.specs.Volume.{Volume, copies_of}
@@ -122,11 +122,14 @@ length-volumes_from : (ps : List LinkedPlacement) (v : ℕ) (volumes : List Link
 length-volumes_from ps v [] = refl
 length-volumes_from ps v (volume ∷ volumes) = ap (λ n. suc n) (length-volumes_from ps (v + 1) volumes)
 
--- what holds of the placements in each mother
-each_mother : (P : List Placement → Type 0) (ps : List LinkedPlacement) → ((m : ℕ) → P (placements_in m ps)) → (v : ℕ) (volumes : List LinkedVolume)
-    → All (λ (u : Volume). P u.placements) (volumes_from ps v volumes)
-each_mother P ps all v [] = All-nil (λ (u : Volume). P u.placements)
-each_mother P ps all v (volume ∷ volumes) = All-cons (λ (u : Volume). P u.placements) _ (volumes_from ps (v + 1) volumes) (all v) (each_mother P ps all (v + 1) volumes)
+-- what holds of each volume with what is placed in it
+pub each_volume : (K : LinkedVolume → Type 0) (P : Volume → Type 0) (ps : List LinkedPlacement)
+    → ((u : LinkedVolume) (m : ℕ) → K u → P (record { name = u.name; solid = u.solid; material = u.material; placements = placements_in m ps })) → (v : ℕ) (us : List LinkedVolume) → All K us → All P (volumes_from ps v us)
+each_volume K P ps says v [] all = All-nil P
+each_volume K P ps says v (u ∷ us) all = All-cons P _ (volumes_from ps (v + 1) us) (says u v (All-head K u us all)) (each_volume K P ps says (v + 1) us (All-tail K u us all))
+
+each_mother : (P : List Placement → Type 0) (ps : List LinkedPlacement) → ((m : ℕ) → P (placements_in m ps)) → (us : List LinkedVolume) → All (λ (u : Volume). P u.placements) (volumes_from ps 0 us)
+each_mother P ps says us = each_volume (λ _. Unit {0}) (λ (u : Volume). P u.placements) ps (λ u m _. says m) 0 us (λ k d less. tt)
 
 -- what holds of each placement
 pub each_in : (P : Placement → Type 0) (ps : List LinkedPlacement) → All (λ (p : LinkedPlacement). P p.placement) ps → (m : ℕ) → All P (placements_in m ps)
@@ -139,7 +142,7 @@ within_limits ps volumes few placeable none =
     let counts = uncrowded ps none in
     record {
       few = omega arith;
-      placeable = each_mother (All (IsPlaceable (length (volumes_from ps 0 volumes)))) ps (each_in (IsPlaceable (length (volumes_from ps 0 volumes))) ps (subst (λ n. All (λ (p : LinkedPlacement). IsPlaceable n p.placement) ps) (sym long) placeable)) 0 volumes;
-      each = each_mother (λ placements. sum_by copies_of placements ≤ 4096) ps counts.each 0 volumes;
+      placeable = each_mother (All (IsPlaceable (length (volumes_from ps 0 volumes)))) ps (each_in (IsPlaceable (length (volumes_from ps 0 volumes))) ps (subst (λ n. All (λ (p : LinkedPlacement). IsPlaceable n p.placement) ps) (sym long) placeable)) volumes;
+      each = each_mother (λ placements. sum_by copies_of placements ≤ 4096) ps counts.each volumes;
       all = omega (arith, total-daughters ps 0 volumes, counts.all);
     }

@@ -33,7 +33,7 @@ use Rattle.gx_link.specs.declared.link.LinkedPlacement.{LinkedPlacement}
 use Rattle.gx_link.specs.Links.{Links, found, figure_of, volume_at_word, matrix_at_word, mother_word, turn_word, placement_of, linked_with, linked_from}
 use Rattle.gx_canon.specs.Canonical.{form_of}
 use Rattle.gx_canon.specs.Printable.{HasCopy, IsNameWord, IsPrintablePlacement}
-use Rattle.gx_trip.proofs.Declared.{IsFigureKept, IsItemKept}
+use Rattle.gx_trip.proofs.Declared.{IsFigureKept, IsShapeKept, IsItemKept}
 use Rattle.gx_trip.proofs.Steps.{steps}
 
 pub record IsVolumeKept (v : LinkedVolume) : Type 0 where
@@ -124,13 +124,18 @@ placed_kept count v m line r f daughter mother rotation formed copy = record {
 
 -- ---- lines
 
+one_placement : (count : ℕ) (names : List (List ℕ)) (links out : Links) (p : LinkedPlacement) → AreLinksKept count names links → IsPlacedKept count p → record links { placements = links.placements ++ p ∷ [] } ≡ out
+    → AreLinksKept count (names ++ []) out
+one_placement count names links out p are is same =
+    subst (AreLinksKept count (names ++ [])) same (record { named = are.named ∙ sym (append-nil names); volumes = are.volumes; placements = All-push (IsPlacedKept count) links.placements p are.placements is })
+
 module _ (known : Known) (solids : All IsFigureKept known.solids.values) (turns : All IsRotation known.turns.values) where
   abbrev count : ℕ
   count = length known.volumes
 
-  figure_kept : (line : ℕ) (shape : Shape) (name material : List ℕ) (f : Figure) → IsItemKept (Volume line name shape material) → figure_of known line shape ≡ Ok f → IsFigureKept f
-  figure_kept line (Own g) name material f is e = let same : g ≡ f = cc in subst IsFigureKept same is.1
-  figure_kept line (Named solid) name material f is e = value_kept IsFigureKept known.solids solid line 3 NoSolid f solids e
+  figure_kept : (line : ℕ) (shape : Shape) (f : Figure) → IsShapeKept shape → figure_of known line shape ≡ Ok f → IsFigureKept f
+  figure_kept line (Own g) f is e = let same : g ≡ f = cc in subst IsFigureKept same is
+  figure_kept line (Named solid) f is e = value_kept IsFigureKept known.solids solid line 3 NoSolid f solids e
 
   matrix_kept : (line word : ℕ) (name : Option (List ℕ)) (m : Matrix) → matrix_at_word known line word name ≡ Ok m → IsRotation m
   matrix_kept line word None m e = let same : identity ≡ m = cc in subst IsRotation same is_identity
@@ -143,7 +148,7 @@ module _ (known : Known) (solids : All IsFigureKept known.solids.values) (turns 
       let same : record links { volumes = links.volumes ++ volume s.first ∷ [] } ≡ out = (let made = s.rest in cc) in
       subst (AreLinksKept count (names ++ name ∷ [])) same (record {
         named = map-append (λ (v : LinkedVolume). v.name) links.volumes (volume s.first ∷ []) ∙ ap (λ (ns : List (List ℕ)). ns ++ name ∷ []) are.named;
-        volumes = All-push IsVolumeKept links.volumes (volume s.first) are.volumes (record { named = is.0; made_of = is.2; figure = figure_kept line shape name material s.first is s.is });
+        volumes = All-push IsVolumeKept links.volumes (volume s.first) are.volumes (record { named = is.0; made_of = is.2; figure = figure_kept line shape s.first is.1 s.is });
         placements = are.placements;
       })
   line_kept names links out (Place line volume mother rotation f) is are e =
@@ -154,13 +159,9 @@ module _ (known : Known) (solids : All IsFigureKept known.solids.values) (turns 
       let t = steps (volume_at_word known line (mother_word f) mother) (turned s.first) out s.rest in
       let u = steps (matrix_at_word known line (turn_word f) rotation) (place s.first t.first) out t.rest in
       let p = placed s.first t.first u.first in
-      let same : record links { placements = links.placements ++ p ∷ [] } ≡ out = (let made = u.rest in cc) in
-      subst (AreLinksKept count (names ++ [])) same (record {
-        named = are.named ∙ sym (append-nil names);
-        volumes = are.volumes;
-        placements = All-push (IsPlacedKept count) links.placements p are.placements
-            (placed_kept count s.first t.first line u.first f (volume_below known volume line 2 s.first s.is) (volume_below known mother line (mother_word f) t.first t.is) (matrix_kept line (turn_word f) rotation u.first u.is) is.0 is.1);
-      })
+      one_placement count names links out p are
+      (placed_kept count s.first t.first line u.first f (volume_below known volume line 2 s.first s.is) (volume_below known mother line (mother_word f) t.first t.is) (matrix_kept line (turn_word f) rotation u.first u.is) is.0 is.1)
+      (let made = u.rest in cc)
 
   pub lines_linked : (names : List (List ℕ)) (links out : Links) (items : List Item) → All IsItemKept items → AreLinksKept count names links → linked_from known links items ≡ Ok out → AreLinksKept count (names ++ volume_names items) out
   lines_linked names links out [] all are e = let same : links ≡ out = cc in subst (AreLinksKept count (names ++ [])) same (subst (λ (ns : List (List ℕ)). AreLinksKept count ns links) (sym (append-nil names)) are)

@@ -15,7 +15,7 @@ use Rattle.gx_shapes.specs.declared.figure.Figure.TheVariants.{Cuboid, Trd, Tet,
 use Rattle.gx_shapes.specs.Accepted.{IsSolid}
 use Rattle.gx_shapes.proofs.Given.{given}
 use Rattle.gx_replica.specs.Replica.{fills}
-use Rattle.gx_param.specs.Param.{place, linear, square}
+use Rattle.gx_param.specs.Param.{place, square}
 use Rattle.gx_tree.specs.declared.placement.Placement.{Placement}
 use Rattle.gx_tree.specs.declared.placement.Placement.TheVariants.{Single, Replica, Linear, Square}
 use Rattle.gx_tree.specs.declared.fault.TreeFault.TheVariants.{ReplicaMixed, ReplicaFill}
@@ -23,7 +23,7 @@ use Rattle.gx_tree.specs.Volume.{Volume, copies_of, rotation_of, offset_of, inst
 use Rattle.gx_tree.specs.Hierarchy.{Hierarchy, volume_at, instances, IsRotation, IsInstance}
 use Rattle.gx_tree.specs.Limits.{IsInRange, IsPlaceable, IsWithinLimits}
 use Rattle.gx_tree.specs.Fault.{halves, fill_fault, fault_of_placement, first_numbered, replica_fault_in, replica_fault}
-use Rattle.gx_trip.proofs.Cells.{centre-within}
+use Rattle.gx_trip.proofs.Cells.{within_along, centre-within}
 
 none-true : {X : Type 0} (c : Bool) (x : X) → cond c None (Some x) ≡ None → c ≡ true
 none-true true x e = refl
@@ -89,16 +89,6 @@ halves-within (Tet a b c d) v solid e = absurd (cc)
 halves-within (Extruded corners low high) v solid e = absurd (cc)
 halves-within (Tessellated facets) v solid e = absurd (cc)
 
-within-linear : (axis : ℕ) (at : ℤ) → unsigned_abs at ≤ unsigned_abs M → IsWithin (unsigned_abs M) (linear axis at)
-within-linear axis at near =
-    let P : ℤ → Type 0 = λ z. unsigned_abs z ≤ unsigned_abs M in
-    let none : P (pos 0) = omega arith in
-    record {
-      x = cond_both (nat_eq axis 0) at (pos 0) P (λ _. near) (λ _. none);
-      y = cond_both (nat_eq axis 1) at (pos 0) P (λ _. near) (λ _. none);
-      z = cond_both (nat_eq axis 2) at (pos 0) P (λ _. near) (λ _. none);
-    }
-
 within-square : (plane : ℕ) (a b : ℤ) → unsigned_abs a ≤ unsigned_abs M → unsigned_abs b ≤ unsigned_abs M → IsWithin (unsigned_abs M) (square plane a b)
 within-square plane a b near other =
     let P : ℤ → Type 0 = λ z. unsigned_abs z ≤ unsigned_abs M in
@@ -113,7 +103,7 @@ offset-within : (mother : Volume) → IsSolid mother.solid → (p : Placement) �
 offset-within mother solid (Single volume copy rotation offset) range h i less = range
 offset-within mother solid (Replica volume axis count width) range h i less =
     centre-within h.outer h.inner axis count width i (unsigned_abs M) h.full less (halves-within mother.solid h.outer solid h.whole)
-offset-within mother solid (Linear volume axis rotation count step offset) range h i less = within-linear axis (place offset step i) (range.near i less)
+offset-within mother solid (Linear volume axis rotation count step offset) range h i less = within_along axis (unsigned_abs M) (place offset step i) (range.near i less)
 offset-within mother solid (Square volume plane rotation first_count second_count first_step second_step first_offset second_offset) range h i less =
     let some = range.0.copies.some in
     let column : i % first_count < first_count = omega arith in

@@ -2,7 +2,7 @@
 use Rattle.std.proofs.Common.{◌≡◌, ℕ, ◌+◌, ◌≤◌, refl, sym, ◌∙◌, ap, subst, arith, List, [], ◌∷◌, length, map, All, Option, None, Some, Result, Ok, Err}
 use Rattle.std.specs.Prelude.{nat_lt}
 use Rattle.std.proofs.lemmas.List.{length-map}
-use Rattle.std.proofs.lemmas.List.Elements.{All-nil, All-cons, All-head, All-tail, All-weaker}
+use Rattle.std.proofs.lemmas.List.Elements.{All-nil, All-weaker}
 use Rattle.gx_fraction.specs.Fraction.{Fraction}
 use Rattle.gx_form.specs.First.{◌>>=◌}
 use Rattle.gx_text.specs.Lines.{cut}
@@ -32,7 +32,7 @@ use Rattle.gx_trip.proofs.Names.{AreNew}
 use Rattle.gx_trip.proofs.Steps.{steps, otherwise}
 use Rattle.gx_trip.proofs.Declared.{IsFigureKept, IsItemKept, AreKept, lines_kept}
 use Rattle.gx_trip.proofs.Linked.{IsVolumeKept, IsPlacedKept, AreLinksKept, names_of, lines_linked}
-use Rattle.gx_trip.proofs.Crowd.{each_in, within_limits}
+use Rattle.gx_trip.proofs.Crowd.{each_volume, each_in, within_limits}
 use Rattle.gx_trip.proofs.Tree.{is_tree, own_volumes}
 
 abbrev pub volume_names_of : List Volume → List (List ℕ)
@@ -46,10 +46,6 @@ pub record IsReadInput (input : Input) : Type 0 where
   pub few_rays : length input.rays ≤ MAX_RAYS
 
 -- ---- volumes with what is placed in them
-
-each_volume : (P : Volume → Type 0) (ps : List LinkedPlacement) → ((u : LinkedVolume) (m : ℕ) → IsVolumeKept u → P (record { name = u.name; solid = u.solid; material = u.material; placements = placements_in m ps })) → (v : ℕ) (us : List LinkedVolume) → All IsVolumeKept us → All P (volumes_from ps v us)
-each_volume P ps says v [] all = All-nil P
-each_volume P ps says v (u ∷ us) all = All-cons P _ (volumes_from ps (v + 1) us) (says u v (All-head IsVolumeKept u us all)) (each_volume P ps says (v + 1) us (All-tail IsVolumeKept u us all))
 
 names-volumes_from : (ps : List LinkedPlacement) (v : ℕ) (us : List LinkedVolume) → volume_names_of (volumes_from ps v us) ≡ names_of us
 names-volumes_from ps v [] = refl
@@ -88,14 +84,14 @@ module _ (links : Links) (names : List (List ℕ)) (few : length names ≤ 4096)
   placed P says m = each_in P links.placements (All-weaker (IsPlacedKept (length names)) (λ (p : LinkedPlacement). P p.placement) says links.placements are.placements) m
 
   solids : All (λ (v : Volume). IsSolid v.solid) volumes
-  solids = each_volume (λ (v : Volume). IsSolid v.solid) links.placements (λ u m h. h.figure.solid) 0 links.volumes are.volumes
+  solids = each_volume IsVolumeKept (λ (v : Volume). IsSolid v.solid) links.placements (λ u m h. h.figure.solid) 0 links.volumes are.volumes
 
   turned : All (λ (v : Volume). All (λ p. IsRotation (rotation_of p)) v.placements) volumes
-  turned = each_volume (λ (v : Volume). All (λ p. IsRotation (rotation_of p)) v.placements) links.placements (λ u m h. placed (λ p. IsRotation (rotation_of p)) (λ p k. k.turned) m) 0 links.volumes are.volumes
+  turned = each_volume IsVolumeKept (λ (v : Volume). All (λ p. IsRotation (rotation_of p)) v.placements) links.placements (λ u m h. placed (λ p. IsRotation (rotation_of p)) (λ p k. k.turned) m) 0 links.volumes are.volumes
 
   printable : All IsPrintableVolume volumes
   printable =
-      each_volume IsPrintableVolume links.placements (λ u m h. record { named = h.named; made_of = h.made_of; scales = h.figure.scales; placed = placed IsPrintablePlacement (λ p k. k.printable) m }) 0 links.volumes are.volumes
+      each_volume IsVolumeKept IsPrintableVolume links.placements (λ u m h. record { named = h.named; made_of = h.made_of; scales = h.figure.scales; placed = placed IsPrintablePlacement (λ p k. k.printable) m }) 0 links.volumes are.volumes
 
   read_tree : (h : Hierarchy) → tree_of links ≡ Ok h → IsReadTree names h
   read_tree h e =
