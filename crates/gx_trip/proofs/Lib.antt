@@ -1,14 +1,14 @@
-pub mod Again
-pub mod Cells
-pub mod Crowd
-pub mod Declared
-pub mod Formed
-pub mod Gathers
-pub mod Linked
-pub mod Names
-pub mod Placed
-pub mod ReadInput
-pub mod Resolved
-pub mod RoundTrip
-pub mod Steps
-pub mod Tree
+mod Again
+mod Cells
+mod Crowd
+mod Declared
+mod Formed
+mod Gathers
+mod Linked
+mod Names
+mod Placed
+mod ReadInput
+mod Resolved
+mod RoundTrip
+mod Steps
+mod Tree
