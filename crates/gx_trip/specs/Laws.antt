@@ -1,4 +1,4 @@
--- The round trip of a canonical text.
+-- The round trip of a canonical text. The form of the text is this project's own.
 use Rattle.std.specs.Prelude.{◌≡◌, ℕ, ◌≤◌, List, length, Ok}
 use Rattle.gx_fraction.specs.Fraction.{Fraction}
 use Rattle.gx_link.specs.declared.input.Input.{Input}
