@@ -14,10 +14,10 @@ module _ {D : Type 0} (to : RayParameter) where
   part : (s : RayParameter) (hits : List (Hit D)) (h : Hit D) → 0 < s.den → InTurn s to hits → IsOne h hits → IsPart s to h
   part s [] h d turn one = absurd one
   part s (g ∷ hits) h d turn (inl e) =
-      subst (IsPart s to) (sym e) (record { starts = turn.0; ends = up_to_end to g.to hits turn.4; some = turn.1; from_lowest = turn.2; to_lowest = turn.3 })
+      subst (IsPart s to) (sym e) (record { starts = turn.0; ends = up_to_end to g.to hits turn.4; ordered = turn.1; from_lowest = turn.2; to_lowest = turn.3 })
   part s (g ∷ hits) h d turn (inr one) =
       let p = part g.to hits h turn.3.positive turn.4 one in
-      record { starts = after s g hits h.from d turn p.starts; ends = p.ends; some = p.some; from_lowest = p.from_lowest; to_lowest = p.to_lowest }
+      record { starts = after s g hits h.from d turn p.starts; ends = p.ends; ordered = p.ordered; from_lowest = p.from_lowest; to_lowest = p.to_lowest }
 
   later : (s : RayParameter) (g : Hit D) (hits : List (Hit D)) (h : Hit D) → InTurn s to (g ∷ hits) → IsOne h hits → IsUpTo g.to h.from
   later s g hits h turn one = (part g.to hits h turn.3.positive turn.4 one).starts

@@ -5,9 +5,9 @@ use Rattle.std.specs.List.{AllByRecursion}
 use Rattle.gx_num.specs.Number.{IsLowest}
 use Rattle.gx_num.specs.Ray.{RayParameter, IsPositive, IsBelow, IsUpTo}
 use Rattle.gx_num.proofs.Order.{le_le, le_lt, lt_le, apart, above_positive, mediant, above_mediant, below_mediant, positive_mediant}
-use Rattle.gx_path.specs.Report.{Row, IsReport, SomeRow, WithNext as WithNextRow, EachNext as EachNextRow}
+use Rattle.gx_path.specs.Report.{Row, IsReport, AnyByRecursion, WithNext, EachNext}
 use Rattle.gx_path.proofs.Unique.{same_parameter}
-use Rattle.gx_partition.specs.Partition.{Piece, IsPartition, HasBegun, IsBeforeEnd, IsOf, IsProper, SomePiece, IsSteady, open_rows, is_below}
+use Rattle.gx_partition.specs.Partition.{Piece, IsPartition, HasBegun, IsBeforeEnd, IsOf, IsProper, IsSteady, open_rows, is_below}
 use Rattle.gx_partition.proofs.Ends.{begun_upto, end_upto, room_upto, single_marks, strictly, some_between}
 use Rattle.gx_partition.proofs.Rests.{IsFirst, IsRest, rest_of}
 
@@ -45,7 +45,7 @@ abbrev Begins : RayParameter → List Row → Type 0
 Begins low [] = Unit {0}
 Begins low (row ∷ rows) = (0 < row.from.den) × IsUpTo low row.from
 
-begins_with_next : (R : Row → Row → Type 0) (low : RayParameter) (row : Row) (rows : List Row) → ((next : Row) → 0 < next.from.den → IsUpTo low next.from → R row next) → Begins low rows → WithNextRow R row rows
+begins_with_next : (R : Row → Row → Type 0) (low : RayParameter) (row : Row) (rows : List Row) → ((next : Row) → 0 < next.from.den → IsUpTo low next.from → R row next) → Begins low rows → WithNext R row rows
 begins_with_next R low row [] f b = tt
 begins_with_next R low row (next ∷ rows) f b = f next b.0 b.1
 
@@ -62,14 +62,14 @@ module _ (place : RayParameter → Option (List ℕ)) where
         | inr o ↦ subst (Begins low) (sym (o.1 ps)) (begins p.to (not p.to_in) ps h.1 low h.0.proper.to_lowest.positive (le_le low p.from p.to h.0.proper.from_lowest.positive here (room_of s m p ps h.0)))
       ]
 
-  ordered : (s : RayParameter) (m : Bool) (ps : List Piece) → IsRest place s m ps → EachNextRow Ordered (open_rows ps)
+  ordered : (s : RayParameter) (m : Bool) (ps : List Piece) → IsRest place s m ps → EachNext Ordered (open_rows ps)
   ordered s m [] h = tt
   ordered s m (p ∷ ps) h =
       let rest = ordered p.to (not p.to_in) ps h.1 in
       let next = begins p.to (not p.to_in) ps h.1 p.to h.0.proper.to_lowest.positive (omega arith) in
       elim (open_or_single p) [
-        | inl o ↦ subst (EachNextRow Ordered) (sym (o.1 ps)) (begins_with_next Ordered p.to (row_of p) (open_rows ps) (λ next d up. up) next, rest)
-        | inr o ↦ subst (EachNextRow Ordered) (sym (o.1 ps)) rest
+        | inl o ↦ subst (EachNext Ordered) (sym (o.1 ps)) (begins_with_next Ordered p.to (row_of p) (open_rows ps) (λ next d up. up) next, rest)
+        | inr o ↦ subst (EachNext Ordered) (sym (o.1 ps)) rest
       ]
 
   at_path : (s : RayParameter) (m : Bool) (p : Piece) (ps : List Piece) → IsFirst place s m p ps → AtPath place (row_of p)
@@ -131,17 +131,17 @@ module _ (place : RayParameter → Option (List ℕ)) where
         go true e f back is paths = let after = single_after p.to (not p.to_in) q (r ∷ ps) mid (ap not e) single in omega (arith, after, back)
         go false e f back is paths = first.other is (ap not e ∙ sym f) paths
 
-    second : (s : RayParameter) (m : Bool) (p : Piece) (ps : List Piece) → IsRest place s m (p ∷ ps) → IsBelow p.from p.to → WithNextRow Other (row_of p) (open_rows ps)
+    second : (s : RayParameter) (m : Bool) (p : Piece) (ps : List Piece) → IsRest place s m (p ∷ ps) → IsBelow p.from p.to → WithNext Other (row_of p) (open_rows ps)
     second s m p [] h opens = tt
     second s m p (q ∷ ps) h opens = elim (open_or_single q) [
-      | inl o ↦ let next : Other (row_of p) (row_of q) = beside s m p q ps h.0 h.1.0 opens o.0 in subst (WithNextRow Other (row_of p)) (sym (o.1 ps)) next
-      | inr o ↦ subst (WithNextRow Other (row_of p)) (sym (o.1 ps)) (third ps h o.0)
+      | inl o ↦ let next : Other (row_of p) (row_of q) = beside s m p q ps h.0 h.1.0 opens o.0 in subst (WithNext Other (row_of p)) (sym (o.1 ps)) next
+      | inr o ↦ subst (WithNext Other (row_of p)) (sym (o.1 ps)) (third ps h o.0)
     ]
       where
-        third : (ps : List Piece) → IsRest place s m (p ∷ q ∷ ps) → IsUpTo q.to q.from → WithNextRow Other (row_of p) (open_rows ps)
+        third : (ps : List Piece) → IsRest place s m (p ∷ q ∷ ps) → IsUpTo q.to q.from → WithNext Other (row_of p) (open_rows ps)
         third [] h single = tt
         third (r ∷ ps) h single = elim (open_or_single r) [
-          | inl o ↦ let next : Other (row_of p) (row_of r) = beyond s m p q r ps h.0 h.1.0 h.1.1.0 opens single o.0 in subst (WithNextRow Other (row_of p)) (sym (o.1 ps)) next
+          | inl o ↦ let next : Other (row_of p) (row_of r) = beyond s m p q r ps h.0 h.1.0 h.1.1.0 opens single o.0 in subst (WithNext Other (row_of p)) (sym (o.1 ps)) next
           | inr o ↦
               let mid = h.1.0 in
               let next = h.1.1.0 in
@@ -149,21 +149,21 @@ module _ (place : RayParameter → Option (List ℕ)) where
               let after : IsBelow q.to r.from = single_after q.to (not q.to_in) r ps next (ap not last) o.0 in
               let from : IsUpTo p.to q.to = le_le p.to q.from q.to mid.proper.from_lowest.positive mid.after (room_of p.to (not p.to_in) q (r ∷ ps) mid) in
               let far : IsBelow p.to r.to = lt_le p.to r.from r.to next.proper.to_lowest.positive (le_lt p.to q.to r.from h.0.proper.to_lowest.positive from after) (room_of q.to (not q.to_in) r ps next) in
-              subst (WithNextRow Other (row_of p)) (sym (o.1 ps)) (begins_with_next Other r.to (row_of p) (open_rows ps) (λ row d up down. omega (arith, lt_le p.to r.to row.from d far up, down))
+              subst (WithNext Other (row_of p)) (sym (o.1 ps)) (begins_with_next Other r.to (row_of p) (open_rows ps) (λ row d up down. omega (arith, lt_le p.to r.to row.from d far up, down))
               (begins r.to (not r.to_in) ps h.1.1.1 r.to next.proper.to_lowest.positive (omega arith)))
         ]
 
-    maximal : (s : RayParameter) (m : Bool) (ps : List Piece) → IsRest place s m ps → EachNextRow Other (open_rows ps)
+    maximal : (s : RayParameter) (m : Bool) (ps : List Piece) → IsRest place s m ps → EachNext Other (open_rows ps)
     maximal s m [] h = tt
     maximal s m (p ∷ ps) h =
         let rest = maximal p.to (not p.to_in) ps h.1 in
         elim (open_or_single p) [
-          | inl o ↦ subst (EachNextRow Other) (sym (o.1 ps)) (second s m p ps h o.0, rest)
-          | inr o ↦ subst (EachNextRow Other) (sym (o.1 ps)) rest
+          | inl o ↦ subst (EachNext Other) (sym (o.1 ps)) (second s m p ps h o.0, rest)
+          | inr o ↦ subst (EachNext Other) (sym (o.1 ps)) rest
         ]
 
     abbrev Covered : RayParameter → List Row → Type 0
-    Covered x rows = SomeRow (λ row. IsUpTo row.from x × IsUpTo x row.to) rows
+    Covered x rows = AnyByRecursion (λ row. IsUpTo row.from x × IsUpTo x row.to) rows
 
     -- after a single parameter a row begins
     touched : (s t : RayParameter) (m : Bool) (ps : List Piece) (path : List ℕ) → IsRest place s m ps → m ≡ false → 0 < s.den → IsUpTo s t → IsUpTo t s → IsPositive t → place t ≡ Some path → Covered t (open_rows ps)
@@ -190,7 +190,7 @@ module _ (place : RayParameter → Option (List ℕ)) where
         before true x l = l
         before false x l = omega (arith, l)
 
-    covered : (s : RayParameter) (m : Bool) (ps : List Piece) → IsRest place s m ps → (t : RayParameter) (path : List ℕ) → IsPositive t → place t ≡ Some path → SomePiece (λ p. IsOf p t) ps → Covered t (open_rows ps)
+    covered : (s : RayParameter) (m : Bool) (ps : List Piece) → IsRest place s m ps → (t : RayParameter) (path : List ℕ) → IsPositive t → place t ≡ Some path → AnyByRecursion (λ p. IsOf p t) ps → Covered t (open_rows ps)
     covered s m [] h t path positive at none = none
     covered s m (p ∷ ps) h t path positive at (inl of) = elim (open_or_single p) [
       | inl o ↦ subst (Covered t) (sym (o.1 ps)) (inl (begun_upto p.from t p.from_in of.0, end_upto p.to t p.to_in of.1))

@@ -2,7 +2,8 @@
 use Rattle.std.proofs.Common.{◌≡◌, ℕ, zero, suc, ◌*◌, ◌<◌, ◌≤◌, refl, sym, ◌∙◌, subst, ap, arith, Bool, true, false, not, List, [], ◌∷◌, Option, Some}
 use Rattle.std.specs.List.{AllByRecursion}
 use Rattle.gx_num.specs.Ray.{RayParameter, IsPositive, IsBelow, IsUpTo}
-use Rattle.gx_partition.specs.Partition.{Piece, IsPartition, HasBegun, IsBeforeEnd, IsOf, HasRoom, IsProper, WithNext, EachNext, Follows, Adjoins}
+use Rattle.gx_path.specs.Report.{WithNext, EachNext}
+use Rattle.gx_partition.specs.Partition.{Piece, IsPartition, HasBegun, IsBeforeEnd, IsOf, HasRoom, IsProper, Follows, Adjoins}
 use Rattle.gx_partition.specs.Walk.{Hit, IsNest, pieces_of}
 use Rattle.gx_partition.proofs.Ends.{room_begun}
 use Rattle.gx_partition.proofs.Tilings.{OtherPath, Tiles, covers, ends_on, first_begun}

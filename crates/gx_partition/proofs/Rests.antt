@@ -5,7 +5,8 @@ use Rattle.gx_num.specs.Number.{IsLowest}
 use Rattle.gx_num.specs.Ray.{RayParameter, IsPositive, IsUpTo}
 use Rattle.gx_num.proofs.Order.{le_le, le_lt, lt_le, apart}
 use Rattle.gx_path.proofs.Unique.{same_parameter}
-use Rattle.gx_partition.specs.Partition.{Piece, IsPartition, HasBegun, IsBeforeEnd, IsOf, IsProper, WithNext, EachNext, Follows, Adjoins, SomePiece}
+use Rattle.gx_path.specs.Report.{WithNext, EachNext, AnyByRecursion}
+use Rattle.gx_partition.specs.Partition.{Piece, IsPartition, HasBegun, IsBeforeEnd, IsOf, IsProper, Follows, Adjoins}
 use Rattle.gx_partition.proofs.Ends.{not_not, never_both, room_begun}
 use Rattle.gx_partition.proofs.Tilings.{OtherPath}
 
@@ -45,9 +46,9 @@ module _ (place : RayParameter → Option (List ℕ)) where
     ordered : EachNext Follows ps
     constant : AllByRecursion (λ p. (t : RayParameter) → IsPositive t → IsOf p t → place t ≡ Some p.path) ps
     maximal : EachNext (λ p next. Adjoins p next → OtherPath p next) ps
-    complete : (t : RayParameter) (path : List ℕ) → IsPositive t → HasBegun s m t → place t ≡ Some path → SomePiece (λ p. IsOf p t) ps
+    complete : (t : RayParameter) (path : List ℕ) → IsPositive t → HasBegun s m t → place t ≡ Some path → AnyByRecursion (λ p. IsOf p t) ps
 
-  covers_from : (p : Piece) (ps : List Piece) (t : RayParameter) → 0 < t.den → AllByRecursion IsProper (p ∷ ps) → EachNext Follows (p ∷ ps) → SomePiece (λ p. IsOf p t) (p ∷ ps) → HasBegun p.from p.from_in t
+  covers_from : (p : Piece) (ps : List Piece) (t : RayParameter) → 0 < t.den → AllByRecursion IsProper (p ∷ ps) → EachNext Follows (p ∷ ps) → AnyByRecursion (λ p. IsOf p t) (p ∷ ps) → HasBegun p.from p.from_in t
   covers_from p ps t d r o (inl of) = of.0
   covers_from p [] t d r o (inr none) = absurd none
   covers_from p (q ∷ ps) t d r o (inr later) =

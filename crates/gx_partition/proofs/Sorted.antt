@@ -17,7 +17,7 @@ Apart h g = IsUpTo h.to g.from ⊎ IsUpTo g.to h.from
 pub record IsPart {D : Type 0} (from to : RayParameter) (h : Hit D) : Type 0 where
   pub starts : IsUpTo from h.from
   pub ends : IsUpTo h.to to
-  pub some : IsBelow h.from h.to
+  pub ordered : IsBelow h.from h.to
   pub from_lowest : IsLowest h.from.num h.from.den
   pub to_lowest : IsLowest h.to.num h.to.den
 
@@ -89,7 +89,7 @@ module _ {D : Type 0} where
     turn-found from to n None each rest = rest
     turn-found from to n (Some h) each rest =
         let p = each h refl in
-        insert_in_turn to from h (sorted found n) p.0.starts p.0.ends p.0.some p.0.from_lowest p.0.to_lowest rest p.1
+        insert_in_turn to from h (sorted found n) p.0.starts p.0.ends p.0.ordered p.0.from_lowest p.0.to_lowest rest p.1
 
     pub in_turn : (from to : RayParameter) (n : ℕ) → IsUpTo from to → ((k : ℕ) (h : Hit D) → k < n → found k ≡ Some h → IsPart from to h)
         → ((j k : ℕ) (g h : Hit D) → j < k → k < n → found j ≡ Some g → found k ≡ Some h → Apart h g)

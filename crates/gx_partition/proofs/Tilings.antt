@@ -2,7 +2,8 @@
 use Rattle.std.proofs.Common.{◌≡◌, ◌≢◌, ℕ, ◌<◌, inl, inr, refl, sym, ◌∙◌, subst, ap, Bool, not, List, [], ◌∷◌, ◌++◌, map}
 use Rattle.std.specs.List.{AllByRecursion}
 use Rattle.gx_num.specs.Ray.{RayParameter, IsPositive}
-use Rattle.gx_partition.specs.Partition.{Piece, HasBegun, IsBeforeEnd, IsOf, HasRoom, IsProper, WithNext, SomePiece}
+use Rattle.gx_path.specs.Report.{WithNext, AnyByRecursion}
+use Rattle.gx_partition.specs.Partition.{Piece, HasBegun, IsBeforeEnd, IsOf, HasRoom, IsProper}
 use Rattle.gx_partition.specs.Walk.{under}
 use Rattle.gx_partition.proofs.Ends.{not_not, over_or_not, never_both, room_ends, room_begun}
 
@@ -36,7 +37,7 @@ module _ (at : RayParameter → List ℕ) where
 
   -- each parameter between is in a piece
   pub covers : (s : RayParameter) (m : Bool) (ps : List Piece) (t : RayParameter) (n : Bool) → Tiles at s m ps t n
-      → (x : RayParameter) → HasBegun s m x → IsBeforeEnd t n x → SomePiece (λ p. IsOf p x) ps
+      → (x : RayParameter) → HasBegun s m x → IsBeforeEnd t n x → AnyByRecursion (λ p. IsOf p x) ps
   covers s m [] t n h x b l = never_both s m x b (subst (λ k. IsBeforeEnd k (not m) x) (sym h.0) (subst (λ k. IsBeforeEnd t k x) h.1 l))
   covers s m (p ∷ ps) t n h x b l = elim (over_or_not p.to p.to_in x) [
     | inl ends ↦ inl (begun_first s m p ps x h.0 b, ends)

@@ -136,8 +136,8 @@ module _ {D : Type 0} (hits : D → List (Hit D)) (at : ℕ → D → RayParamet
   each n here deep (h ∷ list) i o = ((i.0, deep h.from h.to h.daughter o.0), each n here deep list i.1 o.1)
 
   pub nest_tiles : (n : ℕ) (from to : RayParameter) (d : D) → IsNest hits at n from to d → Tiles (at n d) from false (pieces_of hits n from to d) to false
-  nest_tiles zero from to d m = gap_tiles (at zero d) from false to false m.from_lowest m.to_lowest m.some (λ t positive over under. m.stay t positive over under tt)
+  nest_tiles zero from to d m = gap_tiles (at zero d) from false to false m.from_lowest m.to_lowest m.ordered (λ t positive over under. m.stay t positive over under tt)
   nest_tiles (suc n) from to d nest =
       let m = nest.0 in
-      walk_tiles (at (suc n) d) (at n) (λ h. pieces_of hits n h.from h.to h.daughter) to m.to_lowest from false (hits d) m.from_lowest m.turn m.some m.stay
+      walk_tiles (at (suc n) d) (at n) (λ h. pieces_of hits n h.from h.to h.daughter) to m.to_lowest from false (hits d) m.from_lowest m.turn m.ordered m.stay
       (each n (at (suc n) d) (nest_tiles n) (hits d) m.into nest.1)

@@ -1,9 +1,9 @@
--- The exact partition of a ray: the maximal intervals of parameters above 0, single ones among them, at which the deepest volume is one.
+-- The exact partition of a ray: the maximal intervals of parameters above 0, single ones among them, at which the deepest volume is one (this project's own).
 use Rattle.std.specs.Prelude.{◌≡◌, ◌≢◌, ◌⊎◌, ◌*◌, ◌<◌, ℕ, Bool, true, false, nat_lt, if◌then◌else◌, List, [], ◌∷◌, Option, Some}
 use Rattle.std.specs.List.{AllByRecursion}
 use Rattle.gx_num.specs.Number.{IsLowest}
 use Rattle.gx_num.specs.Ray.{RayParameter, IsPositive, IsBelow, IsUpTo}
-use Rattle.gx_path.specs.Report.{Row}
+use Rattle.gx_path.specs.Report.{Row, EachNext, AnyByRecursion}
 
 -- from one parameter to another, with marks that tell whether the ends belong to it, a list of ordinals leads to the deepest volume
 pub record Piece : Type 0 where
@@ -46,21 +46,6 @@ Follows p next = IsUpTo p.to next.from × (p.to ≡ next.from → p.to_in ≡ tr
 abbrev pub Adjoins : Piece → Piece → Type 0
 Adjoins p next = (p.to ≡ next.from) × ((p.to_in ≡ true) ⊎ (next.from_in ≡ true))
 
--- R holds of the piece and the first of the pieces after it, if there is one
-abbrev pub WithNext : (Piece → Piece → Type 0) → Piece → List Piece → Type 0
-WithNext R p [] = Unit {0}
-WithNext R p (next ∷ ps) = R p next
-
--- R holds of each piece and the next
-abbrev pub EachNext : (Piece → Piece → Type 0) → List Piece → Type 0
-EachNext R [] = Unit {0}
-EachNext R (p ∷ ps) = WithNext R p ps × EachNext R ps
-
--- P holds of some piece
-abbrev pub SomePiece : (Piece → Type 0) → List Piece → Type 0
-SomePiece P [] = ⊥
-SomePiece P (p ∷ ps) = P p ⊎ SomePiece P ps
-
 -- These pieces are the partition of a ray for which `place` tells where each parameter is: nowhere in the world, or in the volume at a path.
 pub record IsPartition (place : RayParameter → Option (List ℕ)) (pieces : List Piece) : Type 0 where
   -- each piece's ends are in lowest terms, and it has a parameter
@@ -74,7 +59,7 @@ pub record IsPartition (place : RayParameter → Option (List ℕ)) (pieces : Li
   -- two pieces with nothing between have different paths
   pub maximal : EachNext (λ p next. Adjoins p next → p.path ≢ next.path) pieces
   -- each parameter above 0 that is in the world is in a piece
-  pub complete : (t : RayParameter) (path : List ℕ) → IsPositive t → place t ≡ Some path → SomePiece (λ p. IsOf p t) pieces
+  pub complete : (t : RayParameter) (path : List ℕ) → IsPositive t → place t ≡ Some path → AnyByRecursion (λ p. IsOf p t) pieces
 
 -- No single parameter matters to a report. So it is where solids are convex and a surface is inside nothing that it bounds.
 pub record IsSteady (place : RayParameter → Option (List ℕ)) : Type 0 where

@@ -1,8 +1,9 @@
--- The pieces of a volume, from those of the daughters that a ray meets in turn.
-use Rattle.std.specs.Prelude.{◌≡◌, ◌⊎◌, ◌*◌, ◌<◌, ℕ, Bool, true, false, nat_le, zero, suc, List, [], ◌∷◌, ◌++◌, map, Option, None, Some, if◌then◌else◌}
+-- The pieces of a volume, from those of the daughters that a ray meets in turn (this project's own).
+use Rattle.std.specs.Prelude.{◌≡◌, ◌*◌, ◌<◌, ℕ, Bool, true, false, nat_le, zero, suc, List, [], ◌∷◌, ◌++◌, map, Option, None, Some, if◌then◌else◌}
 use Rattle.std.specs.List.{AllByRecursion}
 use Rattle.gx_num.specs.Number.{IsLowest}
 use Rattle.gx_num.specs.Ray.{RayParameter, IsPositive, IsBelow, IsUpTo}
+use Rattle.gx_path.specs.Report.{AnyByRecursion}
 use Rattle.gx_partition.specs.Partition.{Piece, is_below}
 
 -- whether a parameter lies between a beginning and an end that are marked, or not
@@ -49,7 +50,7 @@ pub record IsMother {D : Type 0} (here : RayParameter → List ℕ) (there : D �
   -- the interval is in lowest terms, and isn't empty
   pub from_lowest : IsLowest from.num from.den
   pub to_lowest : IsLowest to.num to.den
-  pub some : IsBelow from to
+  pub ordered : IsBelow from to
   -- the daughters come one after another in it
   pub turn : InTurn from to hits
   -- inside a daughter one goes on in her
@@ -78,8 +79,7 @@ sorted found (suc n) = insert_found (found n) (sorted found n)
 
 -- the hit is one of the list
 abbrev pub IsOne : {D : Type 0} → Hit D → List (Hit D) → Type 0
-IsOne h [] = ⊥
-IsOne h (g ∷ hits) = (h ≡ g) ⊎ IsOne h hits
+IsOne h hits = AnyByRecursion (λ g. h ≡ g) hits
 
 -- What any way of collecting owes: all that is found below n, one after another.
 pub record IsCollected {D : Type 0} (found : ℕ → Option (Hit D)) (n : ℕ) (from to : RayParameter) (hits : List (Hit D)) : Type 0 where
