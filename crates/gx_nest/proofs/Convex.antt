@@ -1,5 +1,5 @@
 -- Along a ray a solid is convex: between a parameter in it and one inside it all are inside.
-use Rattle.std.proofs.Common.{◌≡◌, ◌<◌, [], ◌∷◌, List, ℤ, pos, ◌+ℤ◌, ◌-ℤ◌, ◌*ℤ◌, ◌<ℤ◌, ◌≤ℤ◌, ◌⊎◌, inl, inr, true, All, get_or, arith}
+use Rattle.std.proofs.Common.{◌≡◌, [], ◌∷◌, List, ℤ, pos, ◌+ℤ◌, ◌-ℤ◌, ◌*ℤ◌, ◌<ℤ◌, ◌≤ℤ◌, ◌⊎◌, inl, inr, true, get_or, arith}
 use Rattle.std.proofs.lemmas.Int.{ints}
 use Rattle.std.proofs.lemmas.List.Elements.{All-weaker}
 use Rattle.gx_num.specs.declared.ray.Ray.{Ray}

@@ -1,5 +1,5 @@
 -- Intervals of parameters, by the parameters in them.
-use Rattle.std.proofs.Common.{◌≡◌, ◌<◌, ◌⊎◌, inl, inr, arith}
+use Rattle.std.proofs.Common.{◌<◌, ◌⊎◌, inl, inr, arith}
 use Rattle.gx_num.specs.Ray.{RayParameter, IsPositive, IsBelow, IsUpTo}
 use Rattle.gx_num.proofs.Order.{le_lt, lt_lt, apart, mediant, above_mediant, below_mediant, positive_mediant}
 use Rattle.gx_partition.proofs.Ends.{some_between}

@@ -1,13 +1,13 @@
 -- In a clean hierarchy what a ray meets is a nest, whose pieces are the partition.
-use Rattle.std.proofs.Common.{◌≡◌, ℕ, zero, suc, ◌+◌, ◌<◌, ◌≤◌, ◌⊎◌, inl, inr, pos, refl, sym, ◌∙◌, ap, subst, arith, Bool, true, false, true≢false, List, [], ◌∷◌, length, slice_get, get_or, All, Option, None, Some}
+use Rattle.std.proofs.Common.{◌≡◌, ℕ, zero, suc, ◌+◌, ◌<◌, inl, inr, pos, refl, sym, ◌∙◌, ap, subst, arith, Bool, true, false, true≢false, List, [], ◌∷◌, length, slice_get, get_or, All, Option, None, Some}
 use Rattle.std.specs.Prelude.{if◌then◌else◌, ◌<ℤ◌, AllPairs}
 use Rattle.std.specs.List.{AllByRecursion}
 use Rattle.std.proofs.lemmas.Int.{ints}
 use Rattle.std.proofs.lemmas.Option.{slice_get_within, get_or_from_slice_get, slice_get_cases}
 use Rattle.gx_num.specs.declared.ray.Ray.{Ray}
-use Rattle.gx_num.specs.Space.{HalfSpace, is_in, is_inside}
+use Rattle.gx_num.specs.Space.{HalfSpace, is_inside}
 use Rattle.gx_num.specs.Vector4.{Vec4}
-use Rattle.gx_num.specs.Ray.{RayParameter, HasDirection, IsPositive, IsBelow, IsUpTo, point_of_ray}
+use Rattle.gx_num.specs.Ray.{RayParameter, HasDirection, IsPositive, IsBelow, point_of_ray}
 use Rattle.gx_fraction.specs.Fraction.{parameter_of}
 use Rattle.gx_clip.specs.declared.span.Span.{Span}
 use Rattle.gx_clip.specs.Clip.{IsBounded, IsInsideBetween, IsClip}
@@ -16,18 +16,18 @@ use Rattle.gx_shapes.specs.declared.figure.Figure.TheVariants.{Cuboid}
 use Rattle.gx_tree.specs.declared.instance.Instance.{Instance}
 use Rattle.gx_tree.specs.Hierarchy.{Hierarchy, volume_at, instances, max_depth, IsInstance}
 use Rattle.gx_tree.specs.Fault.{IsTree}
-use Rattle.gx_tree.specs.Deepest.{Daughter, local_of, is_inside_daughter, first_daughter, descend, path_along}
+use Rattle.gx_tree.specs.Deepest.{local_of, is_inside_daughter, first_daughter, descend, path_along}
 use Rattle.gx_check.specs.Clean.{IsClean, IsContainedIn, AreDisjoint}
 use Rattle.gx_frame.specs.Frames.{local_ray}
 use Rattle.gx_frame.proofs.Frames.{points_stay, rays_move_on}
 use Rattle.gx_partition.specs.Partition.{IsPartition}
-use Rattle.gx_partition.specs.Walk.{Hit, IsInside, IsMother, IsNest, sorted, pieces_of}
+use Rattle.gx_partition.specs.Walk.{Hit, IsInside, IsNest}
 use Rattle.gx_partition.proofs.Partitions.{partition_of_nest}
 use Rattle.gx_partition.proofs.Sorted.{Apart, IsPart, all-sorted, sorted-all, in_turn}
 use Rattle.gx_nest.specs.Met.{Frame, hit_of, IsFound, met_in, pieces_along}
 use Rattle.gx_nest.proofs.Bounded.{solid_bounded}
 use Rattle.gx_nest.proofs.Convex.{closed, inside_in}
-use Rattle.gx_nest.proofs.First.{none_or_some, first-at, first-none, descend-some, descend-none}
+use Rattle.gx_nest.proofs.First.{first-at, first-none, descend-some, descend-none}
 use Rattle.gx_nest.proofs.Intervals.{starts_within, ends_within, no_common}
 
 -- ---- what holds of all of a list

@@ -1,5 +1,5 @@
 -- The part of a ray that is inside a solid has one beginning and one end, so a daughter is met in one way.
-use Rattle.std.proofs.Common.{◌≡◌, ℕ, ◌<◌, refl, sym, ◌∙◌, arith, true≢false, List, Option, None, Some}
+use Rattle.std.proofs.Common.{◌≡◌, ℕ, refl, sym, ◌∙◌, arith, true≢false, List, Option, None, Some}
 use Rattle.gx_num.specs.declared.ray.Ray.{Ray}
 use Rattle.gx_num.specs.Space.{HalfSpace}
 use Rattle.gx_num.specs.Ray.{RayParameter, IsUpTo}

@@ -1,8 +1,7 @@
 -- In a clean hierarchy no single parameter matters, so the open rows are the report.
-use Rattle.std.proofs.Common.{◌≡◌, ℕ, zero, suc, ◌+◌, ◌<◌, ◌⊎◌, inl, inr, refl, sym, ◌∙◌, ap, arith, true, true≢false, List, [], ◌∷◌, length, slice_get, Option, None, Some}
+use Rattle.std.proofs.Common.{◌≡◌, ℕ, zero, suc, ◌<◌, inl, inr, sym, ◌∙◌, ap, arith, true, true≢false, List, ◌∷◌, length, slice_get, Option, None, Some}
 use Rattle.gx_num.specs.declared.ray.Ray.{Ray}
 use Rattle.gx_num.specs.Ray.{RayParameter, HasDirection, IsPositive, IsBelow, IsUpTo, point_of_ray}
-use Rattle.gx_num.specs.Space.{is_inside}
 use Rattle.gx_num.proofs.Order.{le_lt, lt_le, lt_lt, apart, mediant, above_mediant, below_mediant, positive_mediant}
 use Rattle.gx_fraction.specs.Fraction.{parameter_of}
 use Rattle.gx_clip.specs.declared.span.Span.{Span}
