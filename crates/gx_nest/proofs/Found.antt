@@ -45,10 +45,10 @@ module _ (h : Hierarchy) (tree : IsTree h) where
   found_by d (inl moves) k = found_at d k moves (slice_get (instances h d.volume) k) refl
   found_by d (inr still) k = None
 
-  found : Frame → ℕ → Option (Hit Frame)
+  pub found : Frame → ℕ → Option (Hit Frame)
   found d k = found_by d (directed d.ray) k
 
-  is_found : IsFound h found
+  pub is_found : IsFound h found
   unfolding found found_by found_at clip_at
   is_found d moves k i at = by (directed d.ray)
     where
