@@ -4,7 +4,7 @@ use Rattle.std.specs.List.{AllByRecursion}
 use Rattle.gx_num.specs.Number.{IsLowest}
 use Rattle.gx_num.specs.Ray.{RayParameter, IsPositive, IsBelow, IsUpTo}
 use Rattle.gx_fraction.proofs.Gcd.{one_form}
-use Rattle.gx_path.specs.Report.{Row, IsReport, WithNext, EachNext, SomeRow}
+use Rattle.gx_path.specs.Report.{Row, IsReport, WithNext, EachNext, AnyByRecursion}
 use Rattle.gx_num.proofs.Order.{le_le, le_lt, lt_le, lt_lt, apart, lesser, mediant, above_mediant, below_mediant, positive_mediant}
 
 -- a row's ends are in lowest terms, the first below the second
@@ -21,13 +21,13 @@ pub record IsReportAbove (place : RayParameter → Option (List ℕ)) (low : Ray
   pub ordered : EachNext (λ row next. IsUpTo row.to next.from) rows
   pub constant : AllByRecursion (λ row. (t : RayParameter) → IsPositive t → IsBelow row.from t → IsBelow t row.to → place t ≡ Some row.path) rows
   pub maximal : EachNext (λ row next. IsUpTo next.from row.to → row.path ≢ next.path) rows
-  pub complete : (t : RayParameter) (path : List ℕ) → IsPositive t → IsBelow low t → place t ≡ Some path → SomeRow (λ row. IsUpTo row.from t × IsUpTo t row.to) rows
+  pub complete : (t : RayParameter) (path : List ℕ) → IsPositive t → IsBelow low t → place t ≡ Some path → AnyByRecursion (λ row. IsUpTo row.from t × IsUpTo t row.to) rows
   pub begins : Begins low rows
 
 -- a parameter that is in a row, or at an end of one, isn't before the first
 covers_from : (x : Row) (xs : List Row) (t : RayParameter)
     → AllByRecursion HasEnds (x ∷ xs) → EachNext (λ row next. IsUpTo row.to next.from) (x ∷ xs)
-    → SomeRow (λ row. IsUpTo row.from t × IsUpTo t row.to) (x ∷ xs) → IsUpTo x.from t
+    → AnyByRecursion (λ row. IsUpTo row.from t × IsUpTo t row.to) (x ∷ xs) → IsUpTo x.from t
 covers_from x [] t r o (inl in_x) = in_x.0
 covers_from x [] t r o (inr none) = absurd none
 covers_from x (next ∷ xs) t r o (inl in_x) = in_x.0
@@ -182,7 +182,7 @@ parameter num den = record { num = num; den = den }
 abbrev row : RayParameter → RayParameter → List ℕ → Row
 row from to path = record { from = from; to = to; path = path }
 
-same_parameter : (s t : RayParameter) → IsLowest s.num s.den → IsLowest t.num t.den → IsUpTo s t → IsUpTo t s → s ≡ t
+pub same_parameter : (s t : RayParameter) → IsLowest s.num s.den → IsLowest t.num t.den → IsUpTo s t → IsUpTo t s → s ≡ t
 same_parameter s t p q le ge =
     let e = one_form s.num s.den t.num t.den p.positive p.coprime q.coprime (omega (arith, le, ge)) in
     let is : parameter s.num s.den ≡ parameter t.num t.den = cc (e.0, e.1) in

@@ -15,20 +15,20 @@ pub record Row : Type 0 where
 abbrev pub row_of : Fraction → Fraction → List ℕ → Row
 row_of from to path = record { from = parameter_of from; to = parameter_of to; path = path }
 
--- R holds of the row and the first of the rows after it, if there is one
-abbrev pub WithNext : (Row → Row → Type 0) → Row → List Row → Type 0
-WithNext R row [] = Unit {0}
-WithNext R row (next ∷ rows) = R row next
+-- R holds of an element and the first of those after it, if there is one
+abbrev pub WithNext : {X : Type 0} → (X → X → Type 0) → X → List X → Type 0
+WithNext R x [] = Unit {0}
+WithNext R x (next ∷ xs) = R x next
 
--- R holds of each row and the next
-abbrev pub EachNext : (Row → Row → Type 0) → List Row → Type 0
+-- R holds of each element and the next
+abbrev pub EachNext : {X : Type 0} → (X → X → Type 0) → List X → Type 0
 EachNext R [] = Unit {0}
-EachNext R (row ∷ rows) = WithNext R row rows × EachNext R rows
+EachNext R (x ∷ xs) = WithNext R x xs × EachNext R xs
 
--- P holds of some row
-abbrev pub SomeRow : (Row → Type 0) → List Row → Type 0
-SomeRow P [] = ⊥
-SomeRow P (row ∷ rows) = P row ⊎ SomeRow P rows
+-- P holds of some element
+abbrev pub AnyByRecursion : {X : Type 0} → (X → Type 0) → List X → Type 0
+AnyByRecursion P [] = ⊥
+AnyByRecursion P (x ∷ xs) = P x ⊎ AnyByRecursion P xs
 
 -- These rows are the report of a ray for which `place` tells where each parameter is: nowhere in the world, or in the volume at a path.
 pub record IsReport (place : RayParameter → Option (List ℕ)) (rows : List Row) : Type 0 where
@@ -41,4 +41,4 @@ pub record IsReport (place : RayParameter → Option (List ℕ)) (rows : List Ro
   -- two rows that meet have different paths
   pub maximal : EachNext (λ row next. IsUpTo next.from row.to → row.path ≢ next.path) rows
   -- each parameter above 0 that is in the world is in a row or an end of one
-  pub complete : (t : RayParameter) (path : List ℕ) → IsPositive t → place t ≡ Some path → SomeRow (λ row. IsUpTo row.from t × IsUpTo t row.to) rows
+  pub complete : (t : RayParameter) (path : List ℕ) → IsPositive t → place t ≡ Some path → AnyByRecursion (λ row. IsUpTo row.from t × IsUpTo t row.to) rows
