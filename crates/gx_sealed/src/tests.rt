@@ -1,4 +1,5 @@
-ghost use Rattle.std.specs.Prelude.{◌≡◌, ◌<◌};
+ghost use Rattle.std.specs.Prelude.{◌≡◌, ◌<◌, IfOk};
+ghost use Rattle.gx_num.specs.Vector.{IsWithin};
 ghost use Rattle.gx_sealed.specs.Sealed.{IsTraceable};
 
 use crate::{SealError, Sealed, Step};
@@ -73,34 +74,55 @@ fn sealed(alloc: Global, bodies: &[Body<'_>]) -> Result<Sealed, Fail> {
 
 // ---- rays
 
-fn point(x: i64, y: i64, z: i64) -> V3
-    ensures x { result.x ≡ x }
-    ensures y { result.y ≡ y }
-    ensures z { result.z ≡ z }
+fn vector(v: [i8; 3]) -> V3
+    ensures { IsWithin 128 result }
 {
-    V3 { x, y, z }
+    let [x, y, z] = v;
+    V3 {
+        x: i64::from(x),
+        y: i64::from(y),
+        z: i64::from(z),
+    }
+}
+
+// A ray, where it has a direction.
+fn ray(o: [i8; 3], d: [i8; 3]) -> Result<Ray, Fail>
+    ensures { IfOk result IsTraceable }
+{
+    let ray = Ray {
+        o: vector(o),
+        d: vector(d),
+    };
+    if ray.d.x == 0 && ray.d.y == 0 && ray.d.z == 0 {
+        return Err("no direction".into());
+    }
+    Ok(ray)
 }
 
 // The parts inside the world and inside each of its daughters.
-fn spans<L: Ledger>(
+fn spans(alloc: Global, sealed: &Sealed, ray: &Ray) -> Result<String, AllocError>
+    requires { IsTraceable ray.now }
+{
+    counted::<Brand>(alloc, sealed, ray, Blank::new(1))
+}
+
+fn counted<L: Ledger>(
     alloc: Global,
     sealed: &Sealed,
-    o: V3,
-    d: V3,
+    ray: &Ray,
     blank: Blank,
 ) -> Result<String, AllocError>
-    requires ray { IsTraceable (record { o = o; d = d }) }
+    requires ray { IsTraceable ray.now }
     requires name { blank.name ≡ L.name }
     requires parts { blank.parts ≡ L.parts }
     requires some { 0 < L.parts }
 {
-    let ray = Ray { o, d };
     let mut tests: Steps<L> = Steps::new(blank);
     let world = sealed.world();
     let mut text = String::new(alloc);
-    write(alloc, &mut text, sealed.world_span(&ray))?;
+    write(alloc, &mut text, sealed.world_span(ray))?;
     for k in 0..sealed.daughters(world) {
-        write(alloc, &mut text, sealed.clip(world, k, &ray, &mut tests))?;
+        write(alloc, &mut text, sealed.clip(world, k, ray, &mut tests))?;
     }
     Ok(text)
 }
@@ -131,87 +153,27 @@ fn a_ray_is_inside_daughters_in_its_spans(rt: HostRuntime) -> Result<(), Fail> {
         ],
     )?;
     let cases = [
-        // across both, back and forth, and from inside one
-        (
-            spans::<Brand>(
-                alloc,
-                &sealed,
-                point(-30, 0, 0),
-                point(1, 0, 0),
-                Blank::new(1),
-            )?,
-            "10/1 50/1; 20/1 30/1; 30/1 40/1; ",
-        ),
-        (
-            spans::<Brand>(
-                alloc,
-                &sealed,
-                point(30, 0, 0),
-                point(-3, 0, 0),
-                Blank::new(1),
-            )?,
-            "10/3 50/3; 10/1 40/3; 20/3 10/1; ",
-        ),
-        (
-            spans::<Brand>(
-                alloc,
-                &sealed,
-                point(5, 0, 0),
-                point(0, 0, 1),
-                Blank::new(1),
-            )?,
-            "0/1 20/1; none; 0/1 5/1; ",
-        ),
+        // across both, back, and from inside one
+        ([-30, 0, 0], [1, 0, 0], "10/1 50/1; 20/1 30/1; 30/1 40/1; "),
+        ([30, 0, 0], [-3, 0, 0], "10/3 50/3; 10/1 40/3; 20/3 10/1; "),
+        ([5, 0, 0], [0, 0, 1], "0/1 20/1; none; 0/1 5/1; "),
         // in the face between them, in an edge, and at a corner alone
-        (
-            spans::<Brand>(
-                alloc,
-                &sealed,
-                point(0, -30, 0),
-                point(0, 1, 0),
-                Blank::new(1),
-            )?,
-            "10/1 50/1; none; none; ",
-        ),
-        (
-            spans::<Brand>(
-                alloc,
-                &sealed,
-                point(-30, 5, 5),
-                point(1, 0, 0),
-                Blank::new(1),
-            )?,
-            "10/1 50/1; none; none; ",
-        ),
-        (
-            spans::<Brand>(
-                alloc,
-                &sealed,
-                point(0, 15, -5),
-                point(1, -1, 1),
-                Blank::new(1),
-            )?,
-            "0/1 20/1; none; none; ",
-        ),
+        ([0, -30, 0], [0, 1, 0], "10/1 50/1; none; none; "),
+        ([-30, 5, 5], [1, 0, 0], "10/1 50/1; none; none; "),
+        ([0, 15, -5], [1, -1, 1], "0/1 20/1; none; none; "),
         // away from all
-        (
-            spans::<Brand>(
-                alloc,
-                &sealed,
-                point(30, 0, 0),
-                point(1, 0, 0),
-                Blank::new(1),
-            )?,
-            "none; none; none; ",
-        ),
+        ([30, 0, 0], [1, 0, 0], "none; none; none; "),
     ];
-    for (found, expected) in &cases {
-        assert_eq!(rt; found.as_str(), *expected);
+    for (o, d, expected) in cases {
+        let found = spans(alloc, &sealed, &ray(o, d)?)?;
+        assert_eq!(rt; found.as_str(), expected);
     }
+    let world = sealed.world();
+    assert_eq!(rt; sealed.name(world), b"world".as_slice());
     assert_eq!(rt; sealed.most_daughters(), 2);
-    assert_eq!(rt; sealed.name(sealed.world()), b"world".as_slice());
+    assert_eq!(rt; sealed.daughters(world), 2);
     assert_eq!(rt;
-        sealed.step(0, 1),
+        sealed.step(world, 1),
         Step {
             volume: 1,
             copy: -3
@@ -232,23 +194,14 @@ fn a_turned_daughter_is_entered(rt: HostRuntime) -> Result<(), Fail> {
             (b"t", SolidKind::Trd, &[5, 8, 5, 5, 10], &[]),
         ],
     )?;
-    let found = spans::<Brand>(
-        alloc,
-        &sealed,
-        point(-30, 7, 0),
-        point(1, 0, 0),
-        Blank::new(1),
-    )?;
+    let across = ray([-30, 7, 0], [1, 0, 0])?;
+    let found = spans(alloc, &sealed, &across)?;
     assert_eq!(rt; found.as_str(), "10/1 50/1; 91/4 149/4; ");
-    let ray = Ray {
-        o: point(-30, 7, 6),
-        d: point(1, 2, 3),
-    };
-    let entered = Ray {
-        o: point(-30, -6, 5),
-        d: point(1, -3, 2),
-    };
-    assert_eq!(rt; sealed.enter(0, 0, &ray), entered);
+    let slanted = ray([-30, 7, 6], [1, 2, 3])?;
+    let entered = ray([-30, -6, 5], [1, -3, 2])?;
+    let world = sealed.world();
+    assert_eq!(rt; sealed.daughters(world), 1);
+    assert_eq!(rt; sealed.enter(world, 0, &slanted), entered);
     Ok(())
 }
 
