@@ -1,0 +1,3 @@
+pub mod Most
+pub mod Solids
+pub mod Turned

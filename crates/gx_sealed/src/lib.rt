@@ -1,0 +1,12 @@
+//! A clean hierarchy, sealed for tracing: where a ray is inside its world and inside each daughter.
+#![tactic(auto)]
+
+mod enter;
+mod error;
+mod sealed;
+mod solid;
+#[cfg(test)]
+mod tests;
+
+pub use error::SealError;
+pub use sealed::{Sealed, Step};
