@@ -182,7 +182,7 @@ parameter num den = record { num = num; den = den }
 abbrev row : RayParameter → RayParameter → List ℕ → Row
 row from to path = record { from = from; to = to; path = path }
 
-same_parameter : (s t : RayParameter) → IsLowest s.num s.den → IsLowest t.num t.den → IsUpTo s t → IsUpTo t s → s ≡ t
+pub same_parameter : (s t : RayParameter) → IsLowest s.num s.den → IsLowest t.num t.den → IsUpTo s t → IsUpTo t s → s ≡ t
 same_parameter s t p q le ge =
     let e = one_form s.num s.den t.num t.den p.positive p.coprime q.coprime (omega (arith, le, ge)) in
     let is : parameter s.num s.den ≡ parameter t.num t.den = cc (e.0, e.1) in
