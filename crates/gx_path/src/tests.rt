@@ -55,9 +55,11 @@ fn rows_are_kept_up_to_the_room_and_calls_fail_where_told(rt: HostRuntime) -> Re
         assert_eq!(rt; rows.row(&row), answer, "{end}");
     }
     assert_eq!(rt; rows.count(), 2);
-    for (i, end) in (0..rows.count()).zip([1, 3]) {
+    // the first and the third
+    for i in 0..rows.count() {
         let row = rows.at(i);
-        assert_eq!(rt; (row.from, row.to), (Frac::new(0, 1), Frac::new(end, 1)));
+        let end = Frac::new(2 * i128::from(i) + 1, 1);
+        assert_eq!(rt; (row.from, row.to), (Frac::new(0, 1), end));
         assert_eq!(rt; ordinals(alloc, &row.path)?.as_slice(), [9].as_slice());
     }
     Ok(())
