@@ -80,13 +80,11 @@ impl Rows for MemRows {
             self.faults = self.faults.saturating_add(1);
             return Err(Failed);
         }
-        self.kept
-            .push(Row {
-                from: row.from,
-                to: row.to,
-                path: row.path.copy(),
-            })
-            .unwrap();
+        self.kept.push_reserved(Row {
+            from: row.from,
+            to: row.to,
+            path: row.path.copy(),
+        });
         Ok(())
     }
 }
