@@ -57,9 +57,9 @@ open-walk pieces rows each s m to (h ∷ hits) =
     open-append (gap s m h.from true) (inner ++ rest)
     ∙ ap (λ l. l ++ open_rows (inner ++ rest)) (open-gap s m h.from true)
     ∙ ap (λ l. between s h.from ++ l) (
-        open-append inner rest
-        ∙ ap (λ l. l ++ open_rows rest) (open-under h.ordinal (pieces h) ∙ ap (map (within h.ordinal)) (each h))
-        ∙ ap (λ l. map (within h.ordinal) (rows h) ++ l) (open-walk pieces rows each h.to true to hits)
+    open-append inner rest
+    ∙ ap (λ l. l ++ open_rows rest) (open-under h.ordinal (pieces h) ∙ ap (map (within h.ordinal)) (each h))
+    ∙ ap (λ l. map (within h.ordinal) (rows h) ++ l) (open-walk pieces rows each h.to true to hits)
     )
 
 pub open-pieces : (hits : Frame → List (Hit Frame)) (n : ℕ) (from to : RayParameter) (d : Frame) → open_rows (pieces_of hits n from to d) ≡ rows_of hits n from to d

@@ -1,9 +1,9 @@
 -- Hits in the order of entry are one list: that of gx_partition.
-use Rattle.std.proofs.Common.{◌≡◌, ℕ, zero, suc, ◌+◌, ◌*◌, ◌<◌, ◌≤◌, refl, sym, ap, ◌∙◌, subst, arith, Bool, true, false, eqb-true, eq-eqb, List, [], ◌∷◌, Option, None, Some}
+use Rattle.std.proofs.Common.{◌≡◌, ℕ, zero, suc, ◌+◌, ◌<◌, ◌≤◌, refl, sym, ap, ◌∙◌, subst, arith, Bool, true, false, eqb-true, eq-eqb, List, [], ◌∷◌, Option, None, Some}
 use Rattle.std.specs.Prelude.{◌==◌, if◌then◌else◌, sum_by}
 use Rattle.std.specs.List.{AllByRecursion}
 use Rattle.std.proofs.lemmas.List.Sums.{sum_by-cons}
-use Rattle.gx_num.specs.Ray.{RayParameter, IsBelow, IsUpTo}
+use Rattle.gx_num.specs.Ray.{IsBelow, IsUpTo}
 use Rattle.gx_num.proofs.Order.{le_le}
 use Rattle.gx_partition.specs.Partition.{is_below}
 use Rattle.gx_partition.specs.Walk.{Hit, insert_hit, insert_found, sorted}

@@ -1,5 +1,5 @@
 -- What is still to be given of a volume's rows, one hit after another.
-use Rattle.std.proofs.Common.{◌≡◌, ℕ, suc, ◌+◌, ◌-◌, ◌<◌, ◌≤◌, List, [], ◌∷◌, ◌++◌, length, length-append, get_or, take, drop, map, Option, Result, IsErr, refl, sym, ap, ◌∙◌, subst, add-one, drop-cons, arith}
+use Rattle.std.proofs.Common.{◌≡◌, ℕ, ◌+◌, ◌-◌, ◌<◌, ◌≤◌, List, [], ◌∷◌, ◌++◌, length, length-append, get_or, take, drop, map, Option, Result, IsErr, refl, sym, ap, ◌∙◌, subst, add-one, drop-cons, arith}
 use Rattle.std.specs.Prelude.{sum_by}
 use Rattle.std.proofs.Math.Seq.{take-append_seam}
 use Rattle.std.proofs.lemmas.List.Sums.{sum_by-cons}
@@ -90,8 +90,8 @@ module _ (hits : Frame → List (Hit Frame)) (k n : ℕ) (level : n + 1 ≡ k) (
       → Owes old old (items_below items path (rows_of hits k from to frame)) (pending items path (λ h. rows_of hits n h.from h.to h.daughter) to from mets)
   owes-all items path from to old =
       let is : pending items path (λ h. rows_of hits n h.from h.to h.daughter) to from mets ≡ items_below items path (rows_of hits k from to frame) =
-          ap (λ l. items_below items path (rows_from (λ h. rows_of hits n h.from h.to h.daughter) from to l)) same
-          ∙ ap (λ j. items_below items path (rows_of hits j from to frame)) (sym (add-one n) ∙ level) in
+      ap (λ l. items_below items path (rows_from (λ h. rows_of hits n h.from h.to h.daughter) from to l)) same
+      ∙ ap (λ j. items_below items path (rows_of hits j from to frame)) (sym (add-one n) ∙ level) in
       record { each = λ new result w. subst (λ l. Writes old new l result) is w }
 
   pub cost-all : (count : ℕ → ℕ) → count frame.volume + sum_by (λ h. cost_of count hits n h.daughter) (map hit_of mets) ≡ cost_of count hits k frame

@@ -1,5 +1,5 @@
 -- The daughters met, sorted by entry, are the hits in the order of entry.
-use Rattle.std.proofs.Common.{◌≡◌, ℕ, zero, suc, ◌+◌, ◌*◌, ◌<◌, ◌≤◌, ◌⊎◌, inl, inr, refl, sym, ap, ◌∙◌, subst, arith, add-one, Bool, true, false, ℤ, pos, negsuc, List, [], ◌∷◌, ◌++◌, length, get_or, map, Option, None, Some}
+use Rattle.std.proofs.Common.{◌≡◌, ℕ, zero, suc, ◌+◌, ◌*◌, ◌<◌, ◌≤◌, ◌⊎◌, inl, inr, refl, sym, ap, ◌∙◌, subst, arith, add-one, true, false, ℤ, pos, negsuc, List, [], ◌∷◌, ◌++◌, length, get_or, map, Option, None, Some}
 use Rattle.std.specs.Prelude.{sum_by, unsigned_abs, ◌<ℤ◌, ◌≤ℤ◌, ◌*ℤ◌}
 use Rattle.std.specs.List.{All, AllByRecursion}
 use Rattle.std.specs.List.Sorted.{IsPermutation, IsSortedBy}
@@ -9,12 +9,10 @@ use Rattle.std.specs.declared.cmp.Ordering.{Ordering}
 use Rattle.std.specs.declared.cmp.Ordering.TheVariants.{Less, Equal, Greater}
 use Rattle.std.specs.Cmp.{IsStrictWeakOrder, int_ranks, ranks}
 use Rattle.std.proofs.lemmas.Int.{ints}
-use Rattle.std.proofs.lemmas.Bool.{cases_lt}
 use Rattle.std.proofs.lemmas.List.{map-append}
 use Rattle.std.proofs.lemmas.List.Elements.{All-nil, All-cons, All-append}
 use Rattle.std.proofs.lemmas.List.Sorted.{All-permutation, sorted_far, sum_by-IsPermutation}
 use Rattle.std.proofs.lemmas.List.Sums.{sum_by-append, sum_by-cons}
-use Rattle.gx_num.specs.Ray.{RayParameter, IsBelow, IsUpTo}
 use Rattle.gx_partition.specs.Walk.{Hit, insert_found, sorted}
 use Rattle.gx_walk.specs.declared.met.Frame.{Frame}
 use Rattle.gx_walk.specs.declared.met.Met.{Met}
@@ -60,12 +58,12 @@ earlier_or_not a b =
     let y = q.num *ℤ pos p.den in
     elim (first (int_cmp x y) (nat_cmp a.ordinal b.ordinal) x y a.ordinal b.ordinal (int_ranks x y) (ranks a.ordinal b.ordinal)) [
       | inl t ↦ inl (
-          t.0,
-          record { entry = up p.num q.num p.den q.den h k t.1; ordinal = λ l. let less : a.ordinal < b.ordinal = t.2 (back q.num p.num q.den p.den k h l) in omega arith },
-          λ n. let less : a.ordinal < b.ordinal = t.2 (back q.num p.num q.den p.den k h n.entry) in
-              let more : b.ordinal ≤ a.ordinal = n.ordinal (up p.num q.num p.den q.den h k t.1) in
-              omega arith
-        )
+        t.0,
+        record { entry = up p.num q.num p.den q.den h k t.1; ordinal = λ l. let less : a.ordinal < b.ordinal = t.2 (back q.num p.num q.den p.den k h l) in omega arith },
+        λ n. let less : a.ordinal < b.ordinal = t.2 (back q.num p.num q.den p.den k h n.entry) in
+            let more : b.ordinal ≤ a.ordinal = n.ordinal (up p.num q.num p.den q.den h k t.1) in
+            omega arith,
+      )
       | inr t ↦ inr (t.0, record { entry = up q.num p.num q.den p.den k h t.1; ordinal = λ l. t.2 (back p.num q.num p.den q.den h k l) })
     ]
 
@@ -117,8 +115,8 @@ module _ (met : ℕ → Option Met) where
     known = All-append (λ m. met m.ordinal ≡ Some m) mets (m ∷ []) h.known (All-cons (λ m. met m.ordinal ≡ Some m) m [] (ap met is ∙ e) (All-nil (λ m. met m.ordinal ≡ Some m)));
     same = λ f.
         let last : sum_by f (map hit_of (mets ++ m ∷ [])) ≡ f (hit_of m) + sum_by f (sorted found k) =
-            ap (sum_by f) (map-append hit_of mets (m ∷ [])) ∙ sum_by-append f (map hit_of mets) (hit_of m ∷ [])
-            ∙ omega (arith, h.same f, sum_by-cons f (hit_of m) []) in
+        ap (sum_by f) (map-append hit_of mets (m ∷ [])) ∙ sum_by-append f (map hit_of mets) (hit_of m ∷ [])
+        ∙ omega (arith, h.same f, sum_by-cons f (hit_of m) []) in
         last ∙ sym (sum-insert f (hit_of m) (sorted found k))
         ∙ ap (λ o. sum_by f (insert_found (option_map hit_of o) (sorted found k))) (sym e) ∙ ap (λ n. sum_by f (sorted found n)) (sym (add-one k));
   }
@@ -136,10 +134,10 @@ module _ (met : ℕ → Option Met) where
   sorted-are n mets mets' numbered h moved rising =
       let known = All-permutation (λ m. met m.ordinal ≡ Some m) mets mets' moved h.known in
       let each : (k : ℕ) (h : Hit Frame) → found k ≡ Some h → (h.ordinal ≡ k) × (0 < h.from.den) = λ k h e.
-          let m = some_hit k (met k) h e in
-          (ap (λ (h : Hit Frame). h.ordinal) (sym m.2) ∙ numbered k m.0 m.1, subst (λ (h : Hit Frame). 0 < h.from.den) m.2 (positive m.0)) in
+      let m = some_hit k (met k) h e in
+      (ap (λ (h : Hit Frame). h.ordinal) (sym m.2) ∙ numbered k m.0 m.1, subst (λ (h : Hit Frame). 0 < h.from.den) m.2 (positive m.0)) in
       let same = λ (f : Hit Frame → ℕ). sum-map f mets' ∙ sum_by-IsPermutation (λ m. f (hit_of m)) mets mets' moved ∙ sym (sum-map f mets) ∙ h.same f in
       let list : map hit_of mets' ≡ sorted found n =
-        one_list found (map hit_of mets') (sorted found n) (in_order mets' (λ i j d le below. sorted_far is_earlier entry_order mets' rising i j d le below)) (in_order-sorted found each n)
-        (each_hit mets' known) (known-sorted found each n) same in
+      one_list found (map hit_of mets') (sorted found n) (in_order mets' (λ i j d le below. sorted_far is_earlier entry_order mets' rising i j d le below)) (in_order-sorted found each n)
+      (each_hit mets' known) (known-sorted found each n) same in
       (list, known)

@@ -3,7 +3,6 @@ use Rattle.std.proofs.Common.{◌≡◌, ℕ, ◌<◌, Bool, IsTrue, List, lengt
 use Rattle.std.specs.List.{All}
 use Rattle.gx_path.specs.declared.row.Row.{Row as Given}
 use Rattle.gx_walk.specs.declared.met.Met.{Met}
-use Rattle.gx_walk.specs.Hits.{Leads}
 use Rattle.gx_walk.specs.Giving.{TakesBelow}
 
 module _ (takes takes' : Given → Bool) (daughter : ℕ → ℕ → Option ℕ) (path path' : List ℕ) (v : ℕ) (h : TakesBelow takes daughter path v) (e : takes' ≡ takes) (f : path' ≡ path) where

@@ -36,5 +36,13 @@ pub fn walk_world<G: Geometry, R: Rows, T: Ledger>(
     ensures few_tests { tests.new ≤ tests.old + cost_of (G.count_of geometry.now) (hits_of (G.met_of geometry.now) (G.count_of geometry.now)) max_length world.now }
 {
     let mut path = Path::new(*scratch.levels.allocator());
-    emit(geometry, world, span, scratch.levels.as_mut_slice(), &mut path, rows, tests)
+    emit(
+        geometry,
+        world,
+        span,
+        scratch.levels.as_mut_slice(),
+        &mut path,
+        rows,
+        tests,
+    )
 }

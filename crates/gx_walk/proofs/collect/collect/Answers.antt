@@ -1,6 +1,4 @@
 use Rattle.std.proofs.Common.{◌≡◌, ℕ, Some}
-use Rattle.std.specs.List.{All}
-use Rattle.gx_partition.specs.Walk.{sorted}
 use Rattle.gx_walk.specs.declared.met.Met.{Met}
 use Rattle.gx_walk.proofs.Sorted.{sorted-are}
 use Rattle.gx_walk.proofs.collect.collect.Goals as goal

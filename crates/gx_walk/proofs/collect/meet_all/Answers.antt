@@ -1,4 +1,4 @@
-use Rattle.std.proofs.Common.{◌≡◌, ◌+◌, arith, ap, sym, ◌∙◌, subst, vec_len, vec_capacity}
+use Rattle.std.proofs.Common.{◌+◌, arith, ap, sym, ◌∙◌, subst, vec_len, vec_capacity}
 use Rattle.gx_walk.specs.Entry.{AreMet}
 use Rattle.gx_walk.proofs.Sorted.{met_none, met_some}
 use Rattle.gx_walk.proofs.collect.meet_all.Goals as goal
@@ -21,9 +21,9 @@ loop-k-preserved g c =
             tests = omega (arith, c.meet.ensures.tests, inv.tests);
           }
       | in_default w ↦ record {
-          met = subst (λ v. AreMet met (k + 1) v.items) (sym w.hits-is) (met_none met k hits.items (sym c.meet.ensures.met ∙ w.in_default.is) inv.met);
-          few = omega (arith, ap vec_len w.hits-is, inv.few);
-          room = ap vec_capacity w.hits-is ∙ inv.room;
-          tests = omega (arith, c.meet.ensures.tests, inv.tests);
-        }
+        met = subst (λ v. AreMet met (k + 1) v.items) (sym w.hits-is) (met_none met k hits.items (sym c.meet.ensures.met ∙ w.in_default.is) inv.met);
+        few = omega (arith, ap vec_len w.hits-is, inv.few);
+        room = ap vec_capacity w.hits-is ∙ inv.room;
+        tests = omega (arith, c.meet.ensures.tests, inv.tests);
+      }
     ]

@@ -7,7 +7,7 @@ use Rattle.gx_walk.specs.declared.met.Met.{Met}
 use Rattle.gx_walk.specs.Hits.{cost_of, hit_of, hits_of}
 use Rattle.gx_walk.specs.Giving.{HaveRoom, between, items_below, rows_of}
 use Rattle.gx_walk.proofs.Items.{same-below}
-use Rattle.gx_walk.proofs.Pending.{cost-all, owes-all, owes-next, popped, stopped-before, stopped-within, sum-next, sum-last, written-last}
+use Rattle.gx_walk.proofs.Pending.{cost-all, owes-all, owes-next, popped, stopped-before, stopped-within, sum-next, written-last}
 use Rattle.gx_walk.proofs.Takes.{known-at, takes-own, takes-within}
 use Rattle.gx_walk.proofs.emit.+emit.Goals as goal
 
@@ -76,8 +76,8 @@ returns-in_err-emit-clause-rows g t c =
     (g.R.Rows.held c.give-in-loop-met.new.rows) _ (same-below items (g.R.Rows.items c.loop-met.rows) path c.loop-met.path (between s from) inv.items inv.path) c.in_ok-give.ensures.rows.all
     (g.R.Rows.held c.emit.new.rows) c.from_residual-in_err-emit.result _ c.from_residual-in_err-emit.ensures.0
     (
-        same-below items (g.R.Rows.items c.give-in-loop-met.new.rows) below c.push.new.self (rows_of hits (length c.loop-met.deeper) from to met.frame) (c.in_ok-give.ensures.same_items ∙ inv.items) (c.push.ensures ∙ ap (λ p. p ++ met.ordinal ∷ []) inv.path)
-        ∙ ap (λ j. items_below items below (rows_of hits j from to met.frame)) c.loop-met.auto.deeper
+    same-below items (g.R.Rows.items c.give-in-loop-met.new.rows) below c.push.new.self (rows_of hits (length c.loop-met.deeper) from to met.frame) (c.in_ok-give.ensures.same_items ∙ inv.items) (c.push.ensures ∙ ap (λ p. p ++ met.ordinal ∷ []) inv.path)
+    ∙ ap (λ j. items_below items below (rows_of hits j from to met.frame)) c.loop-met.auto.deeper
     ) c.in_err-emit.ensures.rows.front
 
 pub loop-met-preserved : goal.loop-met-preserved
@@ -112,8 +112,8 @@ loop-met-preserved g t c =
           (g.R.Rows.held c.give-in-loop-met.new.rows) _ (same-below items (g.R.Rows.items c.loop-met.rows) path c.loop-met.path (between s from) inv.items inv.path) c.in_ok-give.ensures.rows.all
           (g.R.Rows.held c.emit.new.rows) _
           (
-              same-below items (g.R.Rows.items c.give-in-loop-met.new.rows) below c.push.new.self (rows_of hits (length c.loop-met.deeper) from to met.frame) kept pushed
-              ∙ ap (λ j. items_below items below (rows_of hits j from to met.frame)) c.loop-met.auto.deeper
+          same-below items (g.R.Rows.items c.give-in-loop-met.new.rows) below c.push.new.self (rows_of hits (length c.loop-met.deeper) from to met.frame) kept pushed
+          ∙ ap (λ j. items_below items below (rows_of hits j from to met.frame)) c.loop-met.auto.deeper
           ) c.in_ok-emit.ensures.rows.all;
     }
 
@@ -129,7 +129,7 @@ emit-requires g t c κs lives =
     let known = known-at met_of c.deref-met-items.result.now c.collect.new.hits.items c.loop-met.met-index met c.collect.ensures.known c.deref-met-items.ensures.value c.met-item.is c.loop-met-test.true in
     let into = (g.met.G.Geometry.meets c.args.geometry.now frame met.ordinal met known).1 in
     let takes = takes-within (g.R.Rows.takes c.args.rows.now) (g.R.Rows.takes c.give-in-loop-met.new.rows) daughter path c.loop-met.path frame.volume c.requires.takes
-        (c.in_ok-give.ensures.same_takes ∙ inv.takes) inv.path met.ordinal met.frame.volume c.push.new.self into c.push.ensures in
+    (c.in_ok-give.ensures.same_takes ∙ inv.takes) inv.path met.ordinal met.frame.volume c.push.new.self into c.push.ensures in
     let room = subst (HaveRoom count) (sym inv.room) (subst (λ (levels : List (Vec Met Global)). HaveRoom count (map vec_capacity levels)) c.in-Some.ensures.cases.0 c.requires.room).1 in
     let longer : length c.push.new.self ≡ length path + 1 = ap length (c.push.ensures ∙ ap (λ p. p ++ met.ordinal ∷ []) inv.path) ∙ length-append path (met.ordinal ∷ []) in
     let short : length c.push.new.self + length c.loop-met.deeper ≤ max_length = omega (arith, longer, c.loop-met.auto.deeper, c.in-Some.ensures.cases.1, c.requires.path) in

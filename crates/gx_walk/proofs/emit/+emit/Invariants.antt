@@ -1,8 +1,6 @@
-use Rattle.std.proofs.Common.{length, ◌≡◌, ℕ, ◌+◌, ◌≤ℤ◌, pos, vec_capacity, drop, map}
+use Rattle.std.proofs.Common.{length, ◌≡◌, ◌+◌, ◌≤ℤ◌, pos, vec_capacity, drop, map}
 use Rattle.std.specs.Prelude.{sum_by}
 use Rattle.gx_fraction.specs.Fraction.{parameter_of}
-use Rattle.gx_partition.specs.Walk.{Hit}
-use Rattle.gx_walk.specs.declared.met.Frame.{Frame}
 use Rattle.gx_walk.specs.Hits.{cost_of, hit_of, hits_of}
 use Rattle.gx_walk.specs.Giving.{items_below, rows_of}
 use Rattle.gx_walk.proofs.Pending.{Owes, pending}
@@ -27,6 +25,6 @@ invariant-loop-met g l =
       faults : g.R.Rows.faults l.rows ≡ g.R.Rows.faults l.fn.rows;
       tests : l.tests + sum_by (λ h. cost_of count hits n h.daughter) (map hit_of left) ≡ l.fn.tests + cost_of count hits (length l.fn.levels) l.frame;
       rows : Owes (g.R.Rows.held l.fn.rows) (g.R.Rows.held l.rows)
-        (items_below (g.R.Rows.items l.fn.rows) l.initial.path (rows_of hits (length l.fn.levels) (parameter_of l.fn.span.from) (parameter_of l.fn.span.to) l.frame))
-        (pending (g.R.Rows.items l.fn.rows) l.initial.path (λ h. rows_of hits n h.from h.to h.daughter) (parameter_of l.fn.span.to) (parameter_of l.at) left);
+          (items_below (g.R.Rows.items l.fn.rows) l.initial.path (rows_of hits (length l.fn.levels) (parameter_of l.fn.span.from) (parameter_of l.fn.span.to) l.frame))
+          (pending (g.R.Rows.items l.fn.rows) l.initial.path (λ h. rows_of hits n h.from h.to h.daughter) (parameter_of l.fn.span.to) (parameter_of l.at) left);
     }
