@@ -1,2 +1,4 @@
 pub mod Laws
+pub mod Memory
+pub mod Path
 pub mod Report

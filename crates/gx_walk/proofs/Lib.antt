@@ -1,0 +1,6 @@
+pub mod Items
+pub mod Open
+pub mod Order
+pub mod Pending
+pub mod Sorted
+pub mod Takes

@@ -1,0 +1,73 @@
+ghost use Rattle.std.specs.Prelude.{◌≡◌, ℕ, IsTrue, ◌≤◌, ◌+◌, ◌≤ℤ◌, pos, length, map, vec_capacity, OnOk};
+ghost use Rattle.gx_io.specs.Bytes.{HasCause, Writes};
+ghost use Rattle.gx_fraction.specs.Fraction.{parameter_of};
+ghost use Rattle.gx_path.specs.Path.{max_length};
+ghost use Rattle.gx_path.specs.declared.row.Row.{Row as Given};
+ghost use Rattle.gx_walk.specs.Hits.{hits_of, cost_of};
+ghost use Rattle.gx_walk.specs.Giving.{HaveRoom, TakesBelow, between, items_below, rows_of};
+
+use crate::collect::collect;
+use crate::{Frame, Geometry, Met};
+use gx_clip::Span;
+use gx_fraction::Frac;
+use gx_io::Failed;
+use gx_path::{Path, Row, Rows};
+use gx_steps::Steps;
+use std::sync::ledger::Ledger;
+
+// The rows of a volume that the ray is inside in a span, looked into as deep as there are levels.
+pub fn emit<G: Geometry, R: Rows, T: Ledger>(
+    geometry: &G,
+    frame: &Frame,
+    span: Span,
+    levels: &mut [Vec<Met>],
+    path: &mut Path,
+    rows: &mut R,
+    tests: &mut Steps<T>,
+) -> Result<(), Failed>
+    requires room { HaveRoom (G.count_of geometry.now) (map vec_capacity levels.old) }
+    requires path { length path.old + length levels.old ≤ max_length }
+    requires takes { TakesBelow (R.takes rows.old) (G.daughter_of geometry.now) path.old frame.now.volume }
+    ensures room { map vec_capacity levels.new ≡ map vec_capacity levels.old }
+    ensures path { OnOk result (path.new ≡ path.old) }
+    ensures rows { Writes (R.held rows.old) (R.held rows.new) (items_below (R.items rows.old) path.old (rows_of (hits_of (G.met_of geometry.now) (G.count_of geometry.now)) (length levels.old) (parameter_of span.from) (parameter_of span.to) frame.now)) result }
+    ensures same_items { R.items rows.new ≡ R.items rows.old }
+    ensures same_takes { R.takes rows.new ≡ R.takes rows.old }
+    ensures cause { HasCause (R.faults rows.old) (R.faults rows.new) result }
+    ensures tests { OnOk result (tests.new ≡ tests.old + cost_of (G.count_of geometry.now) (hits_of (G.met_of geometry.now) (G.count_of geometry.now)) (length levels.old) frame.now) }
+    ensures few_tests { tests.new ≤ tests.old + cost_of (G.count_of geometry.now) (hits_of (G.met_of geometry.now) (G.count_of geometry.now)) (length levels.old) frame.now }
+{
+    let Some((level, deeper)) = levels.split_first_mut() else {
+        return give(span.from, span.to, path, rows);
+    };
+    collect(geometry, frame, level, tests);
+    let mut at = span.from;
+    for met in level.iter() {
+        give(at, met.span.from, path, rows)?;
+        path.push(met.ordinal);
+        emit(geometry, &met.frame, met.span, deeper, path, rows, tests)?;
+        path.pop();
+        at = met.span.to;
+    }
+    give(at, span.to, path, rows)
+}
+
+// The row of the mother herself, where anything lies between the two ends.
+fn give<R: Rows>(from: Frac, to: Frac, path: &Path, rows: &mut R) -> Result<(), Failed>
+    requires from { pos 0 ≤ℤ from.num }
+    requires to { pos 0 ≤ℤ to.num }
+    requires takes { (row : Given) → row.path ≡ path.now → IsTrue (R.takes rows.old row) }
+    ensures rows { Writes (R.held rows.old) (R.held rows.new) (items_below (R.items rows.old) path.now (between (parameter_of from) (parameter_of to))) result }
+    ensures same_items { R.items rows.new ≡ R.items rows.old }
+    ensures same_takes { R.takes rows.new ≡ R.takes rows.old }
+    ensures cause { HasCause (R.faults rows.old) (R.faults rows.new) result }
+{
+    if from.cmp(&to).is_lt() {
+        return rows.row(&Row {
+            from,
+            to,
+            path: path.copy(),
+        });
+    }
+    Ok(())
+}
