@@ -1,5 +1,5 @@
 -- How a check's parts make its clauses.
-use Rattle.std.proofs.Common.{◌≡◌, ℕ, Bool, true, false, List, [], ◌∷◌, Option, Result, Ok, Err, refl, ap, ◌∙◌, subst}
+use Rattle.std.proofs.Common.{◌≡◌, ℕ, Bool, true, false, List, [], ◌∷◌, Option, Result, Ok, Err, refl, ap, ◌∙◌, subst, arith}
 use Rattle.std.specs.Prelude.{nat_lt, ◌+◌, ◌||◌, count_by}
 use Rattle.std.specs.List.{list_any}
 use Rattle.std.proofs.Math.Bool.{cond}
@@ -21,11 +21,11 @@ use Rattle.g4exact.specs.Ends.{WritesAll, WritesFront, Wants}
 -- a count isn't 0 where there is one
 pub some-count_by : {A : Type 0} (test : A → Bool) (xs : List A) → nat_lt 0 (count_by test xs) ≡ list_any test xs
 some-count_by test [] = refl
-some-count_by test (x ∷ xs) = one (test x) (some-count_by test xs)
+some-count_by test (x ∷ xs) = one (test x) (count_by test xs) (list_any test xs) (some-count_by test xs)
   where
-    one : (b : Bool) {n : ℕ} {any : Bool} → nat_lt 0 n ≡ any → nat_lt 0 (cond b 1 0 + n) ≡ (b || any)
-    one true e = refl
-    one false e = e
+    one : (b : Bool) (n : ℕ) (any : Bool) → nat_lt 0 n ≡ any → nat_lt 0 (cond b 1 0 + n) ≡ (b || any)
+    one true n any e = refl
+    one false n any e = let none : 0 + n ≡ n = arith in ap (nat_lt 0) none ∙ e
 
 -- verdicts and counts were written
 pub counted : (selection : Selection) (h : Hierarchy) (old mid new : Option (List ℕ)) (status : Status) → mid ≡ with_after old (verdict_lines selection h) → new ≡ with_after mid (counts_line (counts_of (verdicts h)))

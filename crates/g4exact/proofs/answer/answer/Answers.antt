@@ -1,5 +1,5 @@
 use Rattle.g4exact.proofs.Checks.{nothing_written}
 use Rattle.g4exact.proofs.answer.answer.Goals as goal
 
-pub returns-in-Err-clause-output : goal.returns-in-Err-clause-output
-returns-in-Err-clause-output g c = λ grid. rw c.in-Err.is (c.write_fault.ensures.output c.args.verb grid)
+pub returns-in_default-clause-output : goal.returns-in_default-clause-output
+returns-in_default-clause-output g c = λ grid. nothing_written c.args.verb c.args.read (g.K.Sink.written c.args.sink.now)

@@ -24,7 +24,7 @@ returns-in-Err-Failed-clause-output g c = let text = told (g.S.Source.left c.arg
 pub returns-in-Err-NoMemory-clause-output : goal.returns-in-Err-NoMemory-clause-output
 returns-in-Err-NoMemory-clause-output g c =
     let text = told (g.S.Source.left c.args.source.now) in
-    (text.0, text.1, nothing_written c.args.verb c.args.grid.now (reading c.args.grid.now text.0) (g.K.Sink.written c.args.sink.now))
+    (text.0, text.1, nothing_written c.args.verb (reading c.args.grid.now text.0) (g.K.Sink.written c.args.sink.now))
 
 pub returns-in-Ok-clause-blames : goal.returns-in-Ok-clause-blames
 returns-in-Ok-clause-blames g c = blamed _ _ _ _ c.answer.result c.in-Ok.ensures.kept c.answer.ensures.blames
