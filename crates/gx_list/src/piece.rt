@@ -1,0 +1,112 @@
+ghost use Rattle.std.specs.Prelude.{[], ◌∷◌, ◌++◌, map, flat_map};
+ghost use Rattle.gx_io.specs.Bytes.{HasCause, Writes};
+ghost use Rattle.gx_canon.specs.Words.{scale_word};
+ghost use Rattle.gx_canon.specs.Text.{joined};
+ghost use Rattle.gx_list.specs.Pieces.{words_in, spaced};
+ghost use Rattle.gx_list.specs.declared.piece.Piece.TheVariants.{Vector};
+
+use crate::texts::{Texts, write_texts};
+use gx_io::{Failed, Sink, write_all};
+use gx_num::V3;
+use gx_rotation::Rotation;
+use gx_shapes::Scale;
+use itoa::{Buffer, Integer};
+
+/// What a line is written from.
+#[derive(Clone, Copy)]
+pub enum Piece<'a> {
+    Word(&'a [u8]),
+    Count(usize),
+    Length(i64),
+    Vector(V3),
+    Ratio(Scale),
+    /// The rotation's name.
+    Turn(Rotation),
+}
+
+impl Texts for &[Piece<'_>] {
+    ghost texts = { λ pieces. map (λ p. spaced (words_in p)) pieces.now };
+
+    fn count(&self) -> usize {
+        self.len()
+    }
+
+    fn write<K: Sink>(&self, i: usize, sink: &mut K) -> Result<(), Failed> {
+        write_piece(&self[i], sink)
+    }
+}
+
+/// Writes a word, a blank and a word for each of the words that the pieces give, and LF.
+#[tactic(auto, using(gx_io::proofs::Joined::joined))]
+pub fn write_line<K: Sink>(tag: &[u8], pieces: &[Piece], sink: &mut K) -> Result<(), Failed>
+    ensures bytes { Writes (K.written sink.old) (K.written sink.new) (joined (tag.now ∷ flat_map words_in pieces.now) ++ 10 ∷ []) result }
+    ensures cause { HasCause (K.faults sink.old) (K.faults sink.new) result }
+{
+    write_all(sink, tag)?;
+    write_pieces(pieces, sink)?;
+    write_all(sink, b"\n")
+}
+
+/// Writes a blank and a word for each of the words that the pieces give.
+pub fn write_pieces<K: Sink>(pieces: &[Piece], sink: &mut K) -> Result<(), Failed>
+    ensures bytes { Writes (K.written sink.old) (K.written sink.new) (spaced (flat_map words_in pieces.now)) result }
+    ensures cause { HasCause (K.faults sink.old) (K.faults sink.new) result }
+{
+    write_texts(&pieces, sink)
+}
+
+fn write_piece<K: Sink>(piece: &Piece, sink: &mut K) -> Result<(), Failed>
+    ensures bytes { Writes (K.written sink.old) (K.written sink.new) (spaced (words_in piece.now)) result }
+    ensures cause { HasCause (K.faults sink.old) (K.faults sink.new) result }
+{
+    match piece {
+        Piece::Word(word) => write_word(b" ", word, sink),
+        Piece::Count(count) => write_number(b" ", *count, sink),
+        Piece::Length(length) => write_number(b" ", *length, sink),
+        Piece::Vector(v) => write_vector(v, sink),
+        Piece::Ratio(scale) => write_ratio(b" ", scale, sink),
+        Piece::Turn(rotation) => write_number(b" R", rotation.index(), sink),
+    }
+}
+
+#[tactic(auto, using(gx_io::proofs::Joined::joined))]
+fn write_vector<K: Sink>(v: &V3, sink: &mut K) -> Result<(), Failed>
+    ensures bytes { Writes (K.written sink.old) (K.written sink.new) (spaced (words_in (Vector v.now))) result }
+    ensures cause { HasCause (K.faults sink.old) (K.faults sink.new) result }
+{
+    write_number(b" ", v.x, sink)?;
+    write_number(b" ", v.y, sink)?;
+    write_number(b" ", v.z, sink)
+}
+
+// A denominator of 1 is left out.
+#[tactic(auto, using(gx_io::proofs::Joined::joined))]
+fn write_ratio<K: Sink>(head: &[u8], scale: &Scale, sink: &mut K) -> Result<(), Failed>
+    ensures bytes { Writes (K.written sink.old) (K.written sink.new) (head.now ++ scale_word scale.now) result }
+    ensures cause { HasCause (K.faults sink.old) (K.faults sink.new) result }
+{
+    write_number(head, scale.num, sink)?;
+    if scale.den.unsigned_abs() == 1 {
+        return Ok(());
+    }
+    write_number(b"/", scale.den.unsigned_abs(), sink)
+}
+
+// The bytes that stand before a word are a parameter, so that proofs join a text from its parts, and not from bytes.
+
+#[tactic(auto, using(gx_io::proofs::Joined::joined))]
+fn write_number<K: Sink, N: Integer>(head: &[u8], number: N, sink: &mut K) -> Result<(), Failed>
+    ensures bytes { Writes (K.written sink.old) (K.written sink.new) (head.now ++ N.text number) result }
+    ensures cause { HasCause (K.faults sink.old) (K.faults sink.new) result }
+{
+    write_word(head, Buffer::new().format(number).as_bytes(), sink)
+}
+
+#[tactic(auto, using(gx_io::proofs::Joined::joined))]
+fn write_word<K: Sink>(head: &[u8], word: &[u8], sink: &mut K) -> Result<(), Failed>
+    ensures bytes { Writes (K.written sink.old) (K.written sink.new) (head.now ++ word.now) result }
+    ensures cause { HasCause (K.faults sink.old) (K.faults sink.new) result }
+{
+    write_all(sink, head)?;
+    write_all(sink, word)
+}
