@@ -1,7 +1,7 @@
 -- What lines are written from. No public contract stands on this file.
 use Rattle.std.specs.Prelude.{ℕ, List, [], ◌∷◌, ◌++◌, flat_map}
 use Rattle.std.specs.Fmt.{decimal, signed_decimal}
-use Rattle.gx_rotation.specs.Rotation.{matrix_of, number_of}
+use Rattle.gx_rotation.specs.Rotation.{matrix_of}
 use Rattle.gx_decl.specs.declared.declaration.Declaration.{Declaration}
 use Rattle.gx_decl.specs.declared.declaration.Declaration.TheVariants.{Turn}
 use Rattle.gx_canon.specs.Words.{vector_words, scale_word, words_of}
@@ -17,7 +17,7 @@ words_in (piece.Count count) = decimal count ∷ []
 words_in (piece.Length length) = signed_decimal length ∷ []
 words_in (piece.Vector v) = vector_words v
 words_in (piece.Ratio scale) = scale_word scale ∷ []
-words_in (piece.Turn rotation) = rotation_name (number_of rotation) ∷ []
+words_in (piece.Turn k) = rotation_name k ∷ []
 
 -- a blank before each word
 abbrev pub spaced : List (List ℕ) → List ℕ

@@ -8,7 +8,6 @@ ghost use Rattle.gx_list.specs.declared.piece.Piece.TheVariants.{Vector};
 use crate::texts::{Texts, write_texts};
 use gx_io::{Failed, Sink, write_all};
 use gx_num::V3;
-use gx_rotation::Rotation;
 use gx_shapes::Scale;
 use itoa::{Buffer, Integer};
 
@@ -20,19 +19,23 @@ pub enum Piece<'a> {
     Length(i64),
     Vector(V3),
     Ratio(Scale),
-    /// The rotation's name.
-    Turn(Rotation),
+    /// The name of the rotation with this number.
+    Turn(u8),
 }
 
-impl Texts for &[Piece<'_>] {
-    ghost texts = { λ pieces. map (λ p. spaced (words_in p)) pieces.now };
+// The pieces of a line, each word after a blank.
+#[derive(Clone, Copy)]
+struct Pieces<'a>(&'a [Piece<'a>]);
+
+impl Texts for Pieces<'_> {
+    ghost texts = { λ pieces. map (λ piece. spaced (words_in piece)) pieces.0.now };
 
     fn count(&self) -> usize {
-        self.len()
+        self.0.len()
     }
 
     fn write<K: Sink>(&self, i: usize, sink: &mut K) -> Result<(), Failed> {
-        write_piece(&self[i], sink)
+        write_piece(&self.0[i], sink)
     }
 }
 
@@ -52,7 +55,7 @@ pub fn write_pieces<K: Sink>(pieces: &[Piece], sink: &mut K) -> Result<(), Faile
     ensures bytes { Writes (K.written sink.old) (K.written sink.new) (spaced (flat_map words_in pieces.now)) result }
     ensures cause { HasCause (K.faults sink.old) (K.faults sink.new) result }
 {
-    write_texts(&pieces, sink)
+    write_texts(&Pieces(pieces), sink)
 }
 
 fn write_piece<K: Sink>(piece: &Piece, sink: &mut K) -> Result<(), Failed>
@@ -65,7 +68,7 @@ fn write_piece<K: Sink>(piece: &Piece, sink: &mut K) -> Result<(), Failed>
         Piece::Length(length) => write_number(b" ", *length, sink),
         Piece::Vector(v) => write_vector(v, sink),
         Piece::Ratio(scale) => write_ratio(b" ", scale, sink),
-        Piece::Turn(rotation) => write_number(b" R", rotation.index(), sink),
+        Piece::Turn(k) => write_number(b" R", *k, sink),
     }
 }
 

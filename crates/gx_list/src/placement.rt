@@ -7,6 +7,7 @@ ghost use Rattle.gx_canon.specs.Canonical.{placed};
 ghost use Rattle.gx_list.specs.Pieces.{line};
 
 use crate::piece::{Piece, write_line};
+use crate::turns::number;
 use gx_io::{Failed, Sink};
 use gx_tree::{Hierarchy, Placement};
 
@@ -36,7 +37,7 @@ pub fn write_placement<K: Sink>(
                 volume,
                 Piece::Length(i64::from(copy)),
                 mother,
-                Piece::Turn(rotation),
+                Piece::Turn(number(&rotation)),
                 Piece::Vector(offset),
             ],
             sink,
@@ -71,7 +72,7 @@ pub fn write_placement<K: Sink>(
                 Piece::Count(0),
                 mother,
                 Piece::Word(linear_word(axis)),
-                Piece::Turn(rotation),
+                Piece::Turn(number(&rotation)),
                 Piece::Count(count as usize),
                 Piece::Length(step),
                 Piece::Length(offset),
@@ -95,7 +96,7 @@ pub fn write_placement<K: Sink>(
                 Piece::Count(0),
                 mother,
                 Piece::Word(square_word(plane)),
-                Piece::Turn(rotation),
+                Piece::Turn(number(&rotation)),
                 Piece::Count(first_count as usize),
                 Piece::Count(second_count as usize),
                 Piece::Length(first_step),

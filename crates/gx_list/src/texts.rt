@@ -19,6 +19,7 @@ pub trait Texts {
 }
 
 /// Writes one text after another.
+#[tactic(auto, using(gx_io::proofs::Joined::joined, crate::proofs::Series::one_more_text))]
 pub fn write_texts<K: Sink, T: Texts>(texts: &T, sink: &mut K) -> Result<(), Failed>
     ensures bytes { Writes (K.written sink.old) (K.written sink.new) (concat (T.texts texts.now)) result }
     ensures cause { HasCause (K.faults sink.old) (K.faults sink.new) result }

@@ -2,6 +2,7 @@ ghost use Rattle.std.specs.Prelude.{◌≡◌, ◌<◌, ◌||◌, ℕ, [], false
 ghost use Rattle.std.specs.List.{list_any, range_with_len};
 ghost use Rattle.std.specs.Option.{option_map, unwrap_or};
 ghost use Rattle.gx_io.specs.Bytes.{HasCause, Writes};
+ghost use Rattle.gx_rotation.specs.Rotation.{number_of};
 ghost use Rattle.gx_canon.specs.Canonical.{is_used};
 ghost use Rattle.gx_canon.specs.Canonical as spec;
 ghost use Rattle.gx_list.specs.Pieces.{line, turn_declared};
@@ -50,8 +51,16 @@ fn rotation_number(placement: &Placement) -> Option<u8>
         Placement::Replica { .. } => None,
         Placement::Single { rotation, .. }
         | Placement::Linear { rotation, .. }
-        | Placement::Square { rotation, .. } => Some(rotation.index()),
+        | Placement::Square { rotation, .. } => Some(number(rotation)),
     }
+}
+
+/// The number of a rotation.
+pub fn number(rotation: &Rotation) -> u8
+    ensures value { result ≡ number_of rotation.now }
+    ensures below { result < 24 }
+{
+    rotation.index()
 }
 
 impl Texts for Turns {
@@ -79,5 +88,5 @@ fn write_turn<K: Sink>(k: u8, sink: &mut K) -> Result<(), Failed>
     let x = Piece::Vector(rotation.undo(V3 { x: 1, y: 0, z: 0 }));
     let y = Piece::Vector(rotation.undo(V3 { x: 0, y: 1, z: 0 }));
     let z = Piece::Vector(rotation.undo(V3 { x: 0, y: 0, z: 1 }));
-    write_line(b":ROTM", &[Piece::Turn(rotation), x, y, z], sink)
+    write_line(b":ROTM", &[Piece::Turn(k), x, y, z], sink)
 }
