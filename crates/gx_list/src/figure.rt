@@ -94,7 +94,7 @@ fn write_facet<K: Sink>(facet: &Facet, sink: &mut K) -> Result<(), Failed>
     }
 }
 
-#[tactic(auto, using(gx_io::proofs::Joined::joined))]
+#[tactic(auto, using(gx_io::proofs::Joined::joined, crate::proofs::Lines::spaced_parts, crate::proofs::Lines::spaced_each))]
 fn write_extrusion<K: Sink>(
     corners: &Polygon,
     low: &Section,
@@ -106,27 +106,23 @@ fn write_extrusion<K: Sink>(
 {
     write_pieces(&[Piece::Count(corners.as_slice().len())], sink)?;
     write_texts(corners, sink)?;
-    write_pieces(&[Piece::Count(2)], sink)?;
-    write_section(low, sink)?;
-    write_section(high, sink)
-}
-
-fn write_section<K: Sink>(section: &Section, sink: &mut K) -> Result<(), Failed>
-    ensures bytes { Writes (K.written sink.old) (K.written sink.new) (spaced (spec.section_words section.now)) result }
-    ensures cause { HasCause (K.faults sink.old) (K.faults sink.new) result }
-{
     write_pieces(
         &[
-            Piece::Length(section.z),
-            Piece::Length(section.x),
-            Piece::Length(section.y),
-            Piece::Ratio(section.scale),
+            Piece::Count(2),
+            Piece::Length(low.z),
+            Piece::Length(low.x),
+            Piece::Length(low.y),
+            Piece::Ratio(low.scale),
+            Piece::Length(high.z),
+            Piece::Length(high.x),
+            Piece::Length(high.y),
+            Piece::Ratio(high.scale),
         ],
         sink,
     )
 }
 
-#[tactic(auto, using(gx_io::proofs::Joined::joined))]
+#[tactic(auto, using(gx_io::proofs::Joined::joined, crate::proofs::Lines::spaced_first, crate::proofs::Lines::spaced_each))]
 fn write_tessellation<K: Sink>(facets: &Facets, sink: &mut K) -> Result<(), Failed>
     ensures bytes { Writes (K.written sink.old) (K.written sink.new) (spaced (spec.value_words (Tessellated facets.now))) result }
     ensures cause { HasCause (K.faults sink.old) (K.faults sink.new) result }

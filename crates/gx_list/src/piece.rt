@@ -1,9 +1,8 @@
 ghost use Rattle.std.specs.Prelude.{[], ◌∷◌, ◌++◌, map, flat_map};
+ghost use Rattle.std.specs.Fmt.{signed_decimal};
 ghost use Rattle.gx_io.specs.Bytes.{HasCause, Writes};
 ghost use Rattle.gx_canon.specs.Words.{scale_word};
-ghost use Rattle.gx_canon.specs.Text.{joined};
-ghost use Rattle.gx_list.specs.Pieces.{words_in, spaced};
-ghost use Rattle.gx_list.specs.declared.piece.Piece.TheVariants.{Vector};
+ghost use Rattle.gx_list.specs.Pieces.{words_in, spaced, line_of};
 
 use crate::texts::{Texts, write_texts};
 use gx_io::{Failed, Sink, write_all};
@@ -39,18 +38,28 @@ impl Texts for Pieces<'_> {
     }
 }
 
-/// Writes a word, a blank and a word for each of the words that the pieces give, and LF.
-#[tactic(auto, using(gx_io::proofs::Joined::joined))]
+/// Writes a line: this word, and those that the pieces give.
+#[tactic(auto, using(gx_io::proofs::Joined::joined, crate::proofs::Lines::line_is))]
 pub fn write_line<K: Sink>(tag: &[u8], pieces: &[Piece], sink: &mut K) -> Result<(), Failed>
-    ensures bytes { Writes (K.written sink.old) (K.written sink.new) (joined (tag.now ∷ flat_map words_in pieces.now) ++ 10 ∷ []) result }
+    ensures bytes { Writes (K.written sink.old) (K.written sink.new) (line_of (tag.now ∷ flat_map words_in pieces.now)) result }
     ensures cause { HasCause (K.faults sink.old) (K.faults sink.new) result }
 {
     write_all(sink, tag)?;
+    write_last(pieces, sink)
+}
+
+/// Writes the last words of a line.
+#[tactic(auto, using(gx_io::proofs::Joined::joined))]
+pub fn write_last<K: Sink>(pieces: &[Piece], sink: &mut K) -> Result<(), Failed>
+    ensures bytes { Writes (K.written sink.old) (K.written sink.new) (spaced (flat_map words_in pieces.now) ++ 10 ∷ []) result }
+    ensures cause { HasCause (K.faults sink.old) (K.faults sink.new) result }
+{
     write_pieces(pieces, sink)?;
     write_all(sink, b"\n")
 }
 
-/// Writes a blank and a word for each of the words that the pieces give.
+/// Writes a blank before each of the words that the pieces give.
+#[tactic(auto, using(crate::proofs::Lines::spaced_each))]
 pub fn write_pieces<K: Sink>(pieces: &[Piece], sink: &mut K) -> Result<(), Failed>
     ensures bytes { Writes (K.written sink.old) (K.written sink.new) (spaced (flat_map words_in pieces.now)) result }
     ensures cause { HasCause (K.faults sink.old) (K.faults sink.new) result }
@@ -58,6 +67,7 @@ pub fn write_pieces<K: Sink>(pieces: &[Piece], sink: &mut K) -> Result<(), Faile
     write_texts(&Pieces(pieces), sink)
 }
 
+#[tactic(auto, unfolding(crate::specs::Pieces::spaced))]
 fn write_piece<K: Sink>(piece: &Piece, sink: &mut K) -> Result<(), Failed>
     ensures bytes { Writes (K.written sink.old) (K.written sink.new) (spaced (words_in piece.now)) result }
     ensures cause { HasCause (K.faults sink.old) (K.faults sink.new) result }
@@ -66,20 +76,20 @@ fn write_piece<K: Sink>(piece: &Piece, sink: &mut K) -> Result<(), Failed>
         Piece::Word(word) => write_word(b" ", word, sink),
         Piece::Count(count) => write_number(b" ", *count, sink),
         Piece::Length(length) => write_number(b" ", *length, sink),
-        Piece::Vector(v) => write_vector(v, sink),
+        Piece::Vector(v) => write_vector(b" ", v, sink),
         Piece::Ratio(scale) => write_ratio(b" ", scale, sink),
         Piece::Turn(k) => write_number(b" R", *k, sink),
     }
 }
 
 #[tactic(auto, using(gx_io::proofs::Joined::joined))]
-fn write_vector<K: Sink>(v: &V3, sink: &mut K) -> Result<(), Failed>
-    ensures bytes { Writes (K.written sink.old) (K.written sink.new) (spaced (words_in (Vector v.now))) result }
+fn write_vector<K: Sink>(head: &[u8], v: &V3, sink: &mut K) -> Result<(), Failed>
+    ensures bytes { Writes (K.written sink.old) (K.written sink.new) (head.now ++ signed_decimal v.now.x ++ head.now ++ signed_decimal v.now.y ++ head.now ++ signed_decimal v.now.z) result }
     ensures cause { HasCause (K.faults sink.old) (K.faults sink.new) result }
 {
-    write_number(b" ", v.x, sink)?;
-    write_number(b" ", v.y, sink)?;
-    write_number(b" ", v.z, sink)
+    write_number(head, v.x, sink)?;
+    write_number(head, v.y, sink)?;
+    write_number(head, v.z, sink)
 }
 
 // A denominator of 1 is left out.
@@ -88,10 +98,10 @@ fn write_ratio<K: Sink>(head: &[u8], scale: &Scale, sink: &mut K) -> Result<(), 
     ensures bytes { Writes (K.written sink.old) (K.written sink.new) (head.now ++ scale_word scale.now) result }
     ensures cause { HasCause (K.faults sink.old) (K.faults sink.new) result }
 {
-    write_number(head, scale.num, sink)?;
     if scale.den.unsigned_abs() == 1 {
-        return Ok(());
+        return write_number(head, scale.num, sink);
     }
+    write_number(head, scale.num, sink)?;
     write_number(b"/", scale.den.unsigned_abs(), sink)
 }
 

@@ -1,11 +1,10 @@
-ghost use Rattle.std.specs.Prelude.{◌≡◌, ◌<◌, ◌||◌, ℕ, [], false, nat_eq, length, map, slice_index_or, Option, IfSome, if◌then◌else◌};
-ghost use Rattle.std.specs.List.{list_any, range_with_len};
-ghost use Rattle.std.specs.Option.{option_map, unwrap_or};
+ghost use Rattle.std.specs.Prelude.{◌≡◌, ◌<◌, ◌||◌, ℕ, false, slice_index_or};
+ghost use Rattle.std.specs.List.{list_any};
 ghost use Rattle.gx_io.specs.Bytes.{HasCause, Writes};
-ghost use Rattle.gx_rotation.specs.Rotation.{number_of};
-ghost use Rattle.gx_canon.specs.Canonical.{is_used};
-ghost use Rattle.gx_canon.specs.Canonical as spec;
-ghost use Rattle.gx_list.specs.Pieces.{line, turn_declared};
+ghost use Rattle.gx_rotation.specs.Rotation.{matrix_of, number_of};
+ghost use Rattle.gx_decl.specs.declared.declaration.Declaration.TheVariants as declaration;
+ghost use Rattle.gx_canon.specs.Canonical.{rotation_name, is_used};
+ghost use Rattle.gx_list.specs.Pieces.{line, turn_lines, has_rotation};
 
 use crate::piece::{Piece, write_line};
 use crate::texts::Texts;
@@ -16,46 +15,46 @@ use gx_tree::{Hierarchy, Placement};
 
 /// The lines of the rotations that placements have.
 #[derive(Clone, Copy)]
-pub struct Turns {
+pub struct Turns<'a> {
+    tree: &'a Hierarchy,
     used: [bool; 24],
+    ghost used_by_some: { (k : ℕ) → k < 24 → slice_index_or used k false ≡ is_used tree.now.volumes k },
 }
 
-impl Turns {
-    pub fn of(tree: &Hierarchy) -> Turns
-        ensures { (k : ℕ) → k < 24 → slice_index_or result.used k false ≡ is_used tree.now.volumes k }
+impl<'a> Turns<'a> {
+    pub fn of(tree: &'a Hierarchy) -> Turns<'a>
+        ensures { result.tree.now ≡ tree.now }
     {
         let mut used = [false; 24];
         for v in 0..tree.count() {
             mark(&mut used, tree.placements(v));
         }
-        Turns { used }
+        Turns { tree, used }
     }
 }
 
 // Marks the rotations of placements.
 fn mark(used: &mut [bool; 24], placements: &[Placement])
-    ensures { (k : ℕ) → slice_index_or used.new k false ≡ (slice_index_or used.old k false || list_any (λ p. unwrap_or (option_map (nat_eq k) (spec.rotation_number p)) false) placements.now) }
+    ensures { (k : ℕ) → slice_index_or used.new k false ≡ (slice_index_or used.old k false || list_any (has_rotation k) placements.now) }
 {
     for placement in placements {
-        if let Some(k) = rotation_number(placement) {
-            used[k as usize] = true;
-        }
+        mark_rotation(used, placement);
     }
 }
 
-fn rotation_number(placement: &Placement) -> Option<u8>
-    ensures value { result ≡ spec.rotation_number placement.now }
-    ensures below { IfSome result (λ k. k < 24) }
+fn mark_rotation(used: &mut [bool; 24], placement: &Placement)
+    ensures { (k : ℕ) → slice_index_or used.new k false ≡ (slice_index_or used.old k false || has_rotation k placement.now) }
 {
     match placement {
-        Placement::Replica { .. } => None,
+        Placement::Replica { .. } => {}
         Placement::Single { rotation, .. }
         | Placement::Linear { rotation, .. }
-        | Placement::Square { rotation, .. } => Some(number(rotation)),
+        | Placement::Square { rotation, .. } => used[number(rotation) as usize] = true,
     }
 }
 
 /// The number of a rotation.
+#[tactic(auto, using(crate::proofs::Turning::number_is))]
 pub fn number(rotation: &Rotation) -> u8
     ensures value { result ≡ number_of rotation.now }
     ensures below { result < 24 }
@@ -63,13 +62,15 @@ pub fn number(rotation: &Rotation) -> u8
     rotation.index()
 }
 
-impl Texts for Turns {
-    ghost texts = { λ turns. map (λ k. if slice_index_or turns.used k false then line (turn_declared k) else []) (range_with_len 0 24) };
+impl Texts for Turns<'_> {
+    ghost texts = { λ turns. turn_lines turns.tree.now.volumes };
 
+    #[tactic(auto, using(crate::proofs::Turning::length_is))]
     fn count(&self) -> usize {
         24
     }
 
+    #[tactic(auto, using(crate::proofs::Turning::line_at, crate::proofs::Turning::length_is))]
     fn write<K: Sink>(&self, i: usize, sink: &mut K) -> Result<(), Failed> {
         if !self.used[i] {
             return Ok(());
@@ -80,7 +81,7 @@ impl Texts for Turns {
 
 fn write_turn<K: Sink>(k: u8, sink: &mut K) -> Result<(), Failed>
     requires { k < 24 }
-    ensures bytes { Writes (K.written sink.old) (K.written sink.new) (line (turn_declared k)) result }
+    ensures bytes { Writes (K.written sink.old) (K.written sink.new) (line (declaration.Turn (rotation_name k) (matrix_of k))) result }
     ensures cause { HasCause (K.faults sink.old) (K.faults sink.new) result }
 {
     let rotation = Rotation::new(k);

@@ -1,11 +1,12 @@
-ghost use Rattle.std.specs.Prelude.{◌≡◌, ◌<◌, length, map, flat_map};
+ghost use Rattle.std.specs.Prelude.{◌<◌, ◌∷◌, length, map};
+ghost use Rattle.std.specs.List.{concat};
 ghost use Rattle.gx_io.specs.Bytes.{HasCause, Writes};
 ghost use Rattle.gx_tree.specs.Hierarchy.{volume_at};
-ghost use Rattle.gx_canon.specs.Canonical.{volume_declared, placed};
-ghost use Rattle.gx_list.specs.Pieces.{line, lines};
+ghost use Rattle.gx_canon.specs.Canonical.{volume_declared};
+ghost use Rattle.gx_list.specs.Pieces.{line, line_of, lines_in, volume_words};
 
 use crate::figure::{kind_word, write_figure};
-use crate::piece::{Piece, write_line, write_pieces};
+use crate::piece::{Piece, write_last, write_pieces};
 use crate::placement::write_placement;
 use crate::texts::{Texts, write_texts};
 use gx_io::{Failed, Sink, write_all};
@@ -29,10 +30,15 @@ impl Texts for Volumes<'_> {
     }
 }
 
-#[tactic(auto, using(gx_io::proofs::Joined::joined))]
-fn write_volume<K: Sink>(tag: &[u8], tree: &Hierarchy, v: u32, sink: &mut K) -> Result<(), Failed>
+#[tactic(auto, using(gx_io::proofs::Joined::joined, crate::proofs::Lines::volume_line))]
+fn write_volume<K: Sink>(
+    tag: &[u8],
+    tree: &Hierarchy,
+    v: u32,
+    sink: &mut K,
+) -> Result<(), Failed>
     requires { v < length tree.now.volumes }
-    ensures bytes { Writes (K.written sink.old) (K.written sink.new) (line (volume_declared (volume_at tree.now.volumes v))) result }
+    ensures bytes { Writes (K.written sink.old) (K.written sink.new) (line_of (tag.now ∷ volume_words (volume_at tree.now.volumes v))) result }
     ensures cause { HasCause (K.faults sink.old) (K.faults sink.new) result }
 {
     let solid = tree.solid(v);
@@ -40,8 +46,7 @@ fn write_volume<K: Sink>(tag: &[u8], tree: &Hierarchy, v: u32, sink: &mut K) -> 
     write_all(sink, tag)?;
     write_pieces(&[name, Piece::Word(kind_word(solid.kind()))], sink)?;
     write_figure(solid.figure(), sink)?;
-    write_pieces(&[Piece::Word(tree.material(v))], sink)?;
-    write_all(sink, b"\n")
+    write_last(&[Piece::Word(tree.material(v))], sink)
 }
 
 /// The lines of the placements in each mother.
@@ -49,7 +54,7 @@ fn write_volume<K: Sink>(tag: &[u8], tree: &Hierarchy, v: u32, sink: &mut K) -> 
 pub struct Mothers<'a>(pub &'a Hierarchy);
 
 impl Texts for Mothers<'_> {
-    ghost texts = { λ m. map (λ mother. lines (map (placed m.0.now.volumes mother) mother.placements)) m.0.now.volumes };
+    ghost texts = { λ m. map (λ mother. concat (lines_in m.0.now.volumes mother)) m.0.now.volumes };
 
     fn count(&self) -> usize {
         self.0.count() as usize
@@ -77,7 +82,7 @@ struct Daughters<'a> {
 }
 
 impl Texts for Daughters<'_> {
-    ghost texts = { λ d. map (λ placement. line (placed d.tree.now.volumes (volume_at d.tree.now.volumes d.mother) placement)) (volume_at d.tree.now.volumes d.mother).placements };
+    ghost texts = { λ d. lines_in d.tree.now.volumes (volume_at d.tree.now.volumes d.mother) };
 
     fn count(&self) -> usize {
         self.tree.placements(self.mother).len()
