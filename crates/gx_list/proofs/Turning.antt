@@ -1,5 +1,5 @@
 -- The rotations of placements.
-use Rattle.std.proofs.Common.{◌≡◌, ℕ, ◌<◌, List, [], length, get_or, ◌∙◌, ap, refl}
+use Rattle.std.proofs.Common.{◌≡◌, ℕ, ◌<◌, List, [], length, get_or, ◌∙◌, ap, zero-add}
 use Rattle.std.proofs.lemmas.List.FromFn.{length-map-range_with_len, get_or-map-range_with_len}
 use Rattle.gx_rotation.specs.Matrix.{Matrix}
 use Rattle.gx_rotation.specs.Rotation.{matrix_of, number_of, number_of-matrix_of}
@@ -15,4 +15,4 @@ length_is volumes = length-map-range_with_len (turn_line volumes) 0 24
 
 pub line_at : (volumes : List Volume) (k : ℕ) → k < 24 → get_or (turn_lines volumes) k [] ≡ turn_line volumes k
 unfolding turn_lines
-line_at volumes k below = get_or-map-range_with_len (turn_line volumes) 0 24 k k [] below refl
+line_at volumes k below = get_or-map-range_with_len (turn_line volumes) 0 24 k k [] below (zero-add k)

@@ -29,16 +29,16 @@ pub fn write_figure<K: Sink>(figure: &Figure, sink: &mut K) -> Result<(), Failed
 {
     match figure {
         Figure::Cuboid(hx, hy, hz) => write_pieces(
-            &[Piece::Length(*hx), Piece::Length(*hy), Piece::Length(*hz)],
+            &[Piece::Length(hx), Piece::Length(hy), Piece::Length(hz)],
             sink,
         ),
         Figure::Trd(dx1, dx2, dy1, dy2, dz) => write_pieces(
             &[
-                Piece::Length(*dx1),
-                Piece::Length(*dx2),
-                Piece::Length(*dy1),
-                Piece::Length(*dy2),
-                Piece::Length(*dz),
+                Piece::Length(dx1),
+                Piece::Length(dx2),
+                Piece::Length(dy1),
+                Piece::Length(dy2),
+                Piece::Length(dz),
             ],
             sink,
         ),
@@ -64,8 +64,8 @@ impl Texts for Polygon {
     }
 
     fn write<K: Sink>(&self, i: usize, sink: &mut K) -> Result<(), Failed> {
-        let corner = self.as_slice()[i];
-        write_pieces(&[Piece::Length(corner.x), Piece::Length(corner.y)], sink)
+        let corner = &self.as_slice()[i];
+        write_pieces(&[Piece::Length(&corner.x), Piece::Length(&corner.y)], sink)
     }
 }
 
@@ -109,13 +109,13 @@ fn write_extrusion<K: Sink>(
     write_pieces(
         &[
             Piece::Count(2),
-            Piece::Length(low.z),
-            Piece::Length(low.x),
-            Piece::Length(low.y),
+            Piece::Length(&low.z),
+            Piece::Length(&low.x),
+            Piece::Length(&low.y),
             Piece::Ratio(low.scale),
-            Piece::Length(high.z),
-            Piece::Length(high.x),
-            Piece::Length(high.y),
+            Piece::Length(&high.z),
+            Piece::Length(&high.x),
+            Piece::Length(&high.y),
             Piece::Ratio(high.scale),
         ],
         sink,

@@ -1,7 +1,7 @@
 ghost use Rattle.std.specs.Prelude.{[], ◌∷◌, ◌++◌, map, flat_map};
 ghost use Rattle.std.specs.Fmt.{signed_decimal};
 ghost use Rattle.gx_io.specs.Bytes.{HasCause, Writes};
-ghost use Rattle.gx_canon.specs.Words.{scale_word};
+ghost use Rattle.gx_canon.specs.Words.{scale_word, vector_words};
 ghost use Rattle.gx_list.specs.Pieces.{words_in, spaced, line_of};
 
 use crate::texts::{Texts, write_texts};
@@ -15,7 +15,7 @@ use itoa::{Buffer, Integer};
 pub enum Piece<'a> {
     Word(&'a [u8]),
     Count(usize),
-    Length(i64),
+    Length(&'a i64),
     Vector(V3),
     Ratio(Scale),
     /// The name of the rotation with this number.
@@ -75,25 +75,33 @@ fn write_piece<K: Sink>(piece: &Piece, sink: &mut K) -> Result<(), Failed>
     match piece {
         Piece::Word(word) => write_word(b" ", word, sink),
         Piece::Count(count) => write_number(b" ", *count, sink),
-        Piece::Length(length) => write_number(b" ", *length, sink),
-        Piece::Vector(v) => write_vector(b" ", v, sink),
+        Piece::Length(length) => write_length(length, sink),
+        Piece::Vector(v) => write_vector(v, sink),
         Piece::Ratio(scale) => write_ratio(b" ", scale, sink),
         Piece::Turn(k) => write_number(b" R", *k, sink),
     }
 }
 
-#[tactic(auto, using(gx_io::proofs::Joined::joined))]
-fn write_vector<K: Sink>(head: &[u8], v: &V3, sink: &mut K) -> Result<(), Failed>
-    ensures bytes { Writes (K.written sink.old) (K.written sink.new) (head.now ++ signed_decimal v.now.x ++ head.now ++ signed_decimal v.now.y ++ head.now ++ signed_decimal v.now.z) result }
+#[tactic(auto, using(gx_io::proofs::Joined::joined, crate::proofs::Lines::spaced_three))]
+fn write_vector<K: Sink>(v: &V3, sink: &mut K) -> Result<(), Failed>
+    ensures bytes { Writes (K.written sink.old) (K.written sink.new) (spaced (vector_words v.now)) result }
     ensures cause { HasCause (K.faults sink.old) (K.faults sink.new) result }
 {
-    write_number(head, v.x, sink)?;
-    write_number(head, v.y, sink)?;
-    write_number(head, v.z, sink)
+    write_length(&v.x, sink)?;
+    write_length(&v.y, sink)?;
+    write_length(&v.z, sink)
+}
+
+#[tactic(auto, unfolding(crate::specs::Pieces::spaced))]
+fn write_length<K: Sink>(length: &i64, sink: &mut K) -> Result<(), Failed>
+    ensures bytes { Writes (K.written sink.old) (K.written sink.new) (spaced (signed_decimal length.now ∷ [])) result }
+    ensures cause { HasCause (K.faults sink.old) (K.faults sink.new) result }
+{
+    write_number(b" ", *length, sink)
 }
 
 // A denominator of 1 is left out.
-#[tactic(auto, using(gx_io::proofs::Joined::joined))]
+#[tactic(auto, using(gx_io::proofs::Joined::joined, crate::proofs::Lines::ratio_is))]
 fn write_ratio<K: Sink>(head: &[u8], scale: &Scale, sink: &mut K) -> Result<(), Failed>
     ensures bytes { Writes (K.written sink.old) (K.written sink.new) (head.now ++ scale_word scale.now) result }
     ensures cause { HasCause (K.faults sink.old) (K.faults sink.new) result }

@@ -25,7 +25,7 @@ pub fn write_placement<K: Sink>(
 {
     let volume = Piece::Word(tree.name(placement.volume()));
     let mother = Piece::Word(tree.name(mother));
-    match *placement {
+    match placement {
         Placement::Single {
             copy,
             rotation,
@@ -35,10 +35,10 @@ pub fn write_placement<K: Sink>(
             b":PLACE",
             &[
                 volume,
-                Piece::Length(i64::from(copy)),
+                Piece::Length(&i64::from(*copy)),
                 mother,
-                Piece::Turn(number(&rotation)),
-                Piece::Vector(offset),
+                Piece::Turn(number(rotation)),
+                Piece::Vector(*offset),
             ],
             sink,
         ),
@@ -52,8 +52,8 @@ pub fn write_placement<K: Sink>(
             &[
                 volume,
                 mother,
-                Piece::Word(axis_word(axis)),
-                Piece::Count(count as usize),
+                Piece::Word(axis_word(*axis)),
+                Piece::Count(*count as usize),
                 Piece::Length(width),
             ],
             sink,
@@ -71,9 +71,9 @@ pub fn write_placement<K: Sink>(
                 volume,
                 Piece::Count(0),
                 mother,
-                Piece::Word(linear_word(axis)),
-                Piece::Turn(number(&rotation)),
-                Piece::Count(count as usize),
+                Piece::Word(linear_word(*axis)),
+                Piece::Turn(number(rotation)),
+                Piece::Count(*count as usize),
                 Piece::Length(step),
                 Piece::Length(offset),
             ],
@@ -95,10 +95,10 @@ pub fn write_placement<K: Sink>(
                 volume,
                 Piece::Count(0),
                 mother,
-                Piece::Word(square_word(plane)),
-                Piece::Turn(number(&rotation)),
-                Piece::Count(first_count as usize),
-                Piece::Count(second_count as usize),
+                Piece::Word(square_word(*plane)),
+                Piece::Turn(number(rotation)),
+                Piece::Count(*first_count as usize),
+                Piece::Count(*second_count as usize),
                 Piece::Length(first_step),
                 Piece::Length(second_step),
                 Piece::Length(first_offset),

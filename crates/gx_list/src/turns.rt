@@ -70,7 +70,7 @@ impl Texts for Turns<'_> {
         24
     }
 
-    #[tactic(auto, using(crate::proofs::Turning::line_at, crate::proofs::Turning::length_is))]
+    #[tactic(auto, using(gx_io::proofs::Joined::joined, crate::proofs::Turning::line_at, crate::proofs::Turning::length_is))]
     fn write<K: Sink>(&self, i: usize, sink: &mut K) -> Result<(), Failed> {
         if !self.used[i] {
             return Ok(());
