@@ -19,6 +19,7 @@ use Rattle.gx_list.specs.declared.piece.Piece.TheVariants as piece
 abbrev pub words_in : Piece → List (List ℕ)
 words_in (piece.Word word) = word.now ∷ []
 words_in (piece.Count count) = decimal count ∷ []
+words_in (piece.Copy copy) = signed_decimal copy ∷ []
 words_in (piece.Length length) = signed_decimal length.now ∷ []
 words_in (piece.Vector v) = vector_words v
 words_in (piece.Ratio scale) = scale_word scale ∷ []

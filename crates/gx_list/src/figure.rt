@@ -1,4 +1,5 @@
-ghost use Rattle.std.specs.Prelude.{◌≡◌, ◌∷◌, map};
+ghost use Rattle.std.specs.Prelude.{◌≡◌, ◌∷◌, ◌++◌, map};
+ghost use Rattle.std.specs.Fmt.{decimal};
 ghost use Rattle.gx_io.specs.Bytes.{HasCause, Writes};
 ghost use Rattle.gx_shapes.specs.declared.figure.Figure.TheVariants.{Extruded, Tessellated};
 ghost use Rattle.gx_canon.specs.Words as spec;
@@ -106,6 +107,17 @@ fn write_extrusion<K: Sink>(
 {
     write_pieces(&[Piece::Count(corners.as_slice().len())], sink)?;
     write_texts(corners, sink)?;
+    write_sections(low, high, sink)
+}
+
+fn write_sections<'a, K: Sink>(
+    low: &'a Section,
+    high: &'a Section,
+    sink: &mut K,
+) -> Result<(), Failed>
+    ensures bytes { Writes (K.written sink.old) (K.written sink.new) (spaced (decimal 2 ∷ spec.section_words low.now ++ spec.section_words high.now)) result }
+    ensures cause { HasCause (K.faults sink.old) (K.faults sink.new) result }
+{
     write_pieces(
         &[
             Piece::Count(2),

@@ -15,6 +15,7 @@ use itoa::{Buffer, Integer};
 pub enum Piece<'a> {
     Word(&'a [u8]),
     Count(usize),
+    Copy(i32),
     Length(&'a i64),
     Vector(V3),
     Ratio(Scale),
@@ -75,6 +76,7 @@ fn write_piece<K: Sink>(piece: &Piece, sink: &mut K) -> Result<(), Failed>
     match piece {
         Piece::Word(word) => write_word(b" ", word, sink),
         Piece::Count(count) => write_number(b" ", *count, sink),
+        Piece::Copy(copy) => write_number(b" ", *copy, sink),
         Piece::Length(length) => write_length(length, sink),
         Piece::Vector(v) => write_vector(v, sink),
         Piece::Ratio(scale) => write_ratio(b" ", scale, sink),

@@ -12,10 +12,10 @@ use gx_io::{Failed, Sink};
 use gx_tree::{Hierarchy, Placement};
 
 /// Writes the line of a placement in a mother.
-pub fn write_placement<K: Sink>(
-    tree: &Hierarchy,
+pub fn write_placement<'a, K: Sink>(
+    tree: &'a Hierarchy,
     mother: u32,
-    placement: &Placement,
+    placement: &'a Placement,
     sink: &mut K,
 ) -> Result<(), Failed>
     requires mother { mother < length tree.now.volumes }
@@ -35,7 +35,7 @@ pub fn write_placement<K: Sink>(
             b":PLACE",
             &[
                 volume,
-                Piece::Length(&i64::from(*copy)),
+                Piece::Copy(*copy),
                 mother,
                 Piece::Turn(number(rotation)),
                 Piece::Vector(*offset),
