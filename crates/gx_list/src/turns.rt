@@ -79,6 +79,7 @@ impl Texts for Turns<'_> {
     }
 }
 
+#[tactic(auto, using(crate::proofs::Turning::row_x, crate::proofs::Turning::row_y, crate::proofs::Turning::row_z))]
 fn write_turn<K: Sink>(k: u8, sink: &mut K) -> Result<(), Failed>
     requires { k < 24 }
     ensures bytes { Writes (K.written sink.old) (K.written sink.new) (line (declaration.Turn (rotation_name k) (matrix_of k))) result }
