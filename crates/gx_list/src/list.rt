@@ -10,6 +10,7 @@ use gx_io::{Failed, Sink};
 use gx_tree::Hierarchy;
 
 /// Writes the canonical text of a hierarchy and its rays, from which both are read back.
+#[tactic(auto, using(gx_io::proofs::Joined::joined, crate::proofs::Whole::canonical_is))]
 pub fn print_list<K: Sink>(tree: &Hierarchy, rays: &Rays, sink: &mut K) -> Result<(), Failed>
     ensures bytes { Writes (K.written sink.old) (K.written sink.new) (canonical tree.now rays.now) result }
     ensures cause { HasCause (K.faults sink.old) (K.faults sink.new) result }
