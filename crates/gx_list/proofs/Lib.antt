@@ -1,0 +1,4 @@
+pub mod Lines
+pub mod Series
+pub mod Turning
+pub mod Whole
