@@ -79,3 +79,22 @@ fill("placements", none,
      (1, lambda i: ":VOLU part BOX 1 1 1 Lead"),
      (16, lambda i: f":PLACE mother{i} 1 world none 0 0 {i}"),
      (65520, lambda i: f":PLACE part {i} mother{i % 16} none {i % 999} {-i % 999} 2*{i % 99}"))
+
+
+def scene(name, *lines):
+    """A geometry to be checked."""
+    with open(f"{folder}/check-{name}", "w") as text:
+        text.write(":ROTM none 0 0 0\n:VOLU world BOX 100000 100000 100000 Air\n" + "".join(line + "\n" for line in lines))
+
+
+# 4000 boxes that touch; 300 prisms on an octagon that touch each other or are apart; 200 slanting rods of which all boxes meet
+# and none touch; 4032 copies in each of 16 mothers
+scene("boxes", ":VOLU box BOX 5 5 5 Lead",
+      *(f":PLACE box {i} world none {10 * (i % 20)} {10 * (i // 20 % 20)} {10 * (i // 400)}" for i in range(4000)))
+scene("prisms", ":VOLU prism EXTRUDED 8 10 5 5 10 -5 10 -10 5 -10 -5 -5 -10 5 -10 10 -5 2 -20 0 0 1 20 0 0 1 Lead",
+      *(f":PLACE prism {i} world none {20 * (i % 20)} {20 * (i // 20)} 0" for i in range(300)))
+scene("rods", ":VOLU rod EXTRUDED 8 10 5 5 10 -5 10 -10 5 -10 -5 -5 -10 5 -10 10 -5 2 -1000 -1000 -1000 1 1000 1000 1000 1 Lead",
+      *(f":PLACE rod {i} world none {21 * (i % 20)} {21 * (i // 20)} 0" for i in range(200)))
+scene("copies", ":VOLU box BOX 5 5 5 Lead", *(f":VOLU mother{i} BOX 1000 1000 50 Air" for i in range(16)),
+      *(f":PLACE mother{i} 1 world none 0 0 {100 * i}" for i in range(16)),
+      *(f":PLACE_PARAM box 1 mother{i} SQUARE_XY none 63 64 10 10 -320 -320" for i in range(16)))
