@@ -17,7 +17,7 @@ use Rattle.g4exact.specs.declared.outcome.Status.{Status}
 use Rattle.g4exact.specs.declared.outcome.Status.TheVariants.{Clean, Refuted, TextFault as Faulty, WordsFault, ReadFault, WriteFault, NoMemory}
 use Rattle.g4exact.specs.declared.command.Command.TheVariants.{Reading}
 use Rattle.g4exact.specs.declared.command.Verb.{Verb}
-use Rattle.g4exact.specs.declared.command.Verb.TheVariants.{Trace, Check}
+use Rattle.g4exact.specs.declared.command.Verb.TheVariants.{Trace, Check, List as Listed}
 use Rattle.g4exact.specs.Output.{IsTraced, IsAnswer}
 use Rattle.g4exact.specs.Ends.{WritesAll, WritesFront, Wants, Answers, HasIoCause, Ends, Blames}
 
@@ -35,6 +35,7 @@ traced_tells (i ∷ is) input bytes status (line, e) = subst Tells (sym e) tt
 answer_tells : (verb : Verb) (read : Result Input TextFault) (bytes : List ℕ) (status : Status) → IsAnswer verb read bytes status → Tells status
 answer_tells verb (Err fault) bytes status (line, e) = subst Tells (sym e) tt
 answer_tells Trace (Ok input) bytes status is = traced_tells (instances input.tree input.tree.world) input bytes status is
+answer_tells Listed (Ok input) bytes status (text, e) = subst Tells (sym e) tt
 answer_tells (Check selection) (Ok input) bytes status (text, e) = subst Tells (sym e) (by (list_any refutes (verdicts input.tree)))
   where
     by : (b : Bool) → Tells (if b then Refuted else Clean)
@@ -93,4 +94,5 @@ pub handed : (verb : Verb) (output : List ℕ → Status → Type 0) (old new : 
 handed verb output old new pending (Ok status) grows all (bytes, is, e) = (bytes, is, sym (with_after-none new pending all) ∙ e)
 handed verb output old new pending (Err io.Failed) grows all front = front_handed output old new pending grows front
 handed Trace output old new pending (Err io.NoMemory) grows all e = none_handed old new pending grows e
+handed Listed output old new pending (Err io.NoMemory) grows all e = none_handed old new pending grows e
 handed (Check selection) output old new pending (Err io.NoMemory) grows all front = front_handed output old new pending grows front

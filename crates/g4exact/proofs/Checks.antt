@@ -14,7 +14,7 @@ use Rattle.gx_print.specs.Texts.{fault_line, counts_line}
 use Rattle.g4exact.specs.declared.outcome.Status.{Status}
 use Rattle.g4exact.specs.declared.outcome.Status.TheVariants.{TextFault as Faulty}
 use Rattle.g4exact.specs.declared.command.Verb.{Verb}
-use Rattle.g4exact.specs.declared.command.Verb.TheVariants.{Trace, Check}
+use Rattle.g4exact.specs.declared.command.Verb.TheVariants.{Trace, Check, List as Listed}
 use Rattle.g4exact.specs.Output.{verdict_lines, check_text, checked_status, IsCheck, IsAnswer}
 use Rattle.g4exact.specs.Ends.{WritesAll, WritesFront, Wants}
 
@@ -25,7 +25,7 @@ some-count_by test (x ∷ xs) = one (test x) (count_by test xs) (list_any test x
   where
     one : (b : Bool) (n : ℕ) (any : Bool) → nat_lt 0 n ≡ any → nat_lt 0 (cond b 1 0 + n) ≡ (b || any)
     one true n any e = refl
-    one false n any e = let none : 0 + n ≡ n = arith in ap (nat_lt 0) none ∙ e
+    one false n any e = let none : 0 + n ≡ n = omega arith in ap (nat_lt 0) none ∙ e
 
 -- verdicts and counts were written
 pub counted : (selection : Selection) (h : Hierarchy) (old mid new : Option (List ℕ)) (status : Status) → mid ≡ with_after old (verdict_lines selection h) → new ≡ with_after mid (counts_line (counts_of (verdicts h)))
@@ -48,5 +48,6 @@ counts_stopped selection h old mid new lines counts =
 -- where memory is wanting before the first byte, nothing was written, which is a front of any output
 pub nothing_written : (verb : Verb) (read : Result Input TextFault) (old : Option (List ℕ)) → Wants verb (IsAnswer verb read) old old
 nothing_written Trace read old = refl
+nothing_written Listed read old = refl
 nothing_written (Check selection) (Err fault) old = (fault_line fault, Faulty, (refl, refl), front-nothing old (fault_line fault))
 nothing_written (Check selection) (Ok input) old = (check_text selection input.tree, checked_status input.tree, (refl, refl), front-nothing old (check_text selection input.tree))

@@ -12,7 +12,7 @@ use Rattle.g4exact.specs.declared.command.Options.{Options}
 use Rattle.g4exact.specs.declared.command.Command.{Command}
 use Rattle.g4exact.specs.declared.command.Command.TheVariants.{Reading}
 use Rattle.g4exact.specs.declared.command.Verb.{Verb}
-use Rattle.g4exact.specs.declared.command.Verb.TheVariants.{Trace, Check}
+use Rattle.g4exact.specs.declared.command.Verb.TheVariants.{Trace, Check, List as Listed}
 
 -- the words after the program's name, of the arguments that were given; none where these are no texts
 abbrev pub AreWords : {A E X : Type 0} → (A → List X) → Result A E → List X → Type 0
@@ -69,6 +69,7 @@ abbrev pub verb_of : List ℕ → Option Verb
 verb_of word =
     if bytes_eq word (codes "trace") then Some Trace
     else if bytes_eq word (codes "check") then Some (Check All)
+    else if bytes_eq word (codes "list") then Some Listed
     else None
 
 -- with `--brief` only the verdicts that refute are written
@@ -79,7 +80,7 @@ verb_with brief verb = verb
 abbrev pub reading_with : Verb → Options → Command
 reading_with verb options = Reading (verb_with options.brief verb) (grid_or options.grid)
 
--- a verb, and then its options: `trace [--grid=EXPR]`, `check [--brief] [--grid=EXPR]`
+-- a verb, and then its options: `trace [--grid=EXPR]`, `check [--brief] [--grid=EXPR]`, `list [--grid=EXPR]`
 abbrev pub command_of : List (List ℕ) → Option Command
 command_of [] = None
 command_of (first ∷ words) = option_and_then (λ verb. option_map (reading_with verb) (options_from verb no_options words)) (verb_of first)

@@ -10,7 +10,7 @@ use Rattle.g4exact.specs.Output.{IsOutput}
 use Rattle.g4exact.specs.declared.command.Command.{Command}
 use Rattle.g4exact.specs.declared.command.Command.TheVariants.{Reading}
 use Rattle.g4exact.specs.declared.command.Verb.{Verb}
-use Rattle.g4exact.specs.declared.command.Verb.TheVariants.{Trace, Check}
+use Rattle.g4exact.specs.declared.command.Verb.TheVariants.{Trace, Check, List as Listed}
 use Rattle.g4exact.specs.declared.outcome.Status.{Status}
 use Rattle.g4exact.specs.declared.outcome.Status.TheVariants.{Clean, Refuted, TextFault, WordsFault, ReadFault, WriteFault, NoMemory}
 
@@ -31,6 +31,7 @@ WritesFront output old new = (bytes : List ℕ) × (status : Status) × output b
 -- else nothing, since all memory is taken before the first byte is written.
 abbrev pub Wants : Verb → (List ℕ → Status → Type 0) → Option (List ℕ) → Option (List ℕ) → Type 0
 Wants Trace output old new = new ≡ old
+Wants Listed output old new = new ≡ old
 Wants (Check selection) output old new = WritesFront output old new
 
 -- what a verb writes: all of the output, a front of it where the sink failed, or what was written where memory was wanting

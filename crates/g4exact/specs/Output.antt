@@ -13,11 +13,12 @@ use Rattle.gx_gather.specs.declared.fault.TextFault.{TextFault}
 use Rattle.gx_gather.specs.Faults.{fault_at}
 use Rattle.gx_link.specs.declared.input.Input.{Input}
 use Rattle.gx_reader.specs.Reading.{reading}
+use Rattle.gx_canon.specs.Canonical.{canonical}
 use Rattle.gx_print.specs.Texts.{usage_line, ray_head, row_text, fault_line, verdict_line, counts_line}
 use Rattle.g4exact.specs.declared.command.Command.{Command}
 use Rattle.g4exact.specs.declared.command.Command.TheVariants.{Reading}
 use Rattle.g4exact.specs.declared.command.Verb.{Verb}
-use Rattle.g4exact.specs.declared.command.Verb.TheVariants.{Trace, Check}
+use Rattle.g4exact.specs.declared.command.Verb.TheVariants.{Trace, Check, List as Listed}
 use Rattle.g4exact.specs.declared.outcome.Status.{Status}
 use Rattle.g4exact.specs.declared.outcome.Status.TheVariants.{Clean, Refuted, TextFault as Faulty, WordsFault}
 
@@ -58,9 +59,13 @@ checked_status h = if list_any refutes (verdicts h) then Refuted else Clean
 abbrev pub IsCheck : Selection → Hierarchy → List ℕ → Status → Type 0
 IsCheck selection h bytes status = (bytes ≡ check_text selection h) × (status ≡ checked_status h)
 
+abbrev pub IsList : Input → List ℕ → Status → Type 0
+IsList input bytes status = (bytes ≡ canonical input.tree input.rays) × (status ≡ Clean)
+
 -- what a verb writes of an input
 abbrev pub IsWritten : Verb → Input → List ℕ → Status → Type 0
 IsWritten (Check selection) input bytes status = IsCheck selection input.tree bytes status
+IsWritten Listed input bytes status = IsList input bytes status
 IsWritten Trace input bytes status = IsTraced (instances input.tree input.tree.world) input bytes status
 
 -- the line of the text's fault; or where there is none, what the verb writes

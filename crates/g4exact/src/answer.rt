@@ -8,6 +8,7 @@ ghost use Rattle.g4exact.specs.Ends.{Ends, Blames, Answers, HasIoCause};
 use crate::check::write_check;
 use crate::command::Verb;
 use crate::fault::write_fault;
+use crate::list::write_list;
 use crate::outcome::Status;
 use crate::trace::write_trace;
 use gx_gather::TextFault;
@@ -92,6 +93,7 @@ fn write_answer<K: Sink>(
         Ok(input) => match verb {
             Verb::Trace => write_trace(&input, sink),
             Verb::Check(selection) => write_check(alloc, selection, &input.tree, sink),
+            Verb::List => write_list(&input, sink),
         },
         Err(fault) => write_fault(&fault, sink),
     }

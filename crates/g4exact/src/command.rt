@@ -24,6 +24,8 @@ pub enum Verb {
     Trace,
     /// The verdicts on daughters and pairs of daughters, and their counts.
     Check(Selection),
+    /// The canonical text of the geometry and the rays.
+    List,
 }
 
 /// The command that the words after the program's name are, if they are one. Takes no memory.
@@ -47,6 +49,7 @@ fn verb_from(word: &str) -> Option<Verb>
     match word {
         "trace" => Some(Verb::Trace),
         "check" => Some(Verb::Check(Selection::All)),
+        "list" => Some(Verb::List),
         _ => None,
     }
 }

@@ -6,6 +6,7 @@ mod check;
 mod command;
 mod fault;
 mod input;
+mod list;
 mod outcome;
 mod run;
 #[cfg(test)]

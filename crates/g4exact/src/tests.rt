@@ -314,6 +314,78 @@ fn each_daughter_and_each_pair_has_its_verdict(rt: HostRuntime) -> Result<(), Fa
     Ok(())
 }
 
+// The rotation's name and the lengths' units leave no trace; a length is in steps of the grid.
+#[test]
+fn a_geometry_is_listed(rt: HostRuntime) -> Result<(), Fail> {
+    let alloc = rt.alloc();
+    let chain = deep_chain(alloc, 32)?;
+    let all = [
+        (
+            ["list", "--grid=1*mm"].as_slice(),
+            b":ROTM r0 0 0 0\n:VOLU world BOX 2*cm 20 20 Air\n:VOLU b BOX 5 5 5 Lead // half\n:PLACE b 1 world r0 -5 0 0\n:PLACE b 2 world r0 5 0 0\n:RAY -30 0 0 1 0 0".as_slice(),
+            Status::Clean,
+            ":ROTM R0 1 0 0 0 1 0 0 0 1\n:VOLU world BOX 20 20 20 Air\n:VOLU b BOX 5 5 5 Lead\n:PLACE b 1 world R0 -5 0 0\n:PLACE b 2 world R0 5 0 0\n:RAY -30 0 0 1 0 0\n",
+        ),
+        (
+            &["list", "--grid=1/3*mm"],
+            b":P d 10\n:VOLU world BOX $d/3 10 10 Air",
+            Status::Clean,
+            ":VOLU world BOX 10 30 30 Air\n",
+        ),
+        (
+            &["list"],
+            b":VOLU a BOX 1 1 1 Air\n:VOLU a BOX 1 1 1 Air",
+            Status::TextFault,
+            "fault 2 2 Twice\n",
+        ),
+        (
+            &["list"],
+            b":PLACE a 1 b r 0 0 0\n:ROTM r 0 0 45",
+            Status::TextFault,
+            "fault 2 5 NotAxis\n",
+        ),
+        (
+            &["check", "--brief"],
+            &chain,
+            Status::Clean,
+            "checked 32 daughters 0 pairs 0 refuted\n",
+        ),
+    ];
+    for (words, text, status, output) in all {
+        let case = Case {
+            words,
+            text,
+            status,
+            output,
+        };
+        check(&rt, alloc, &case)?;
+    }
+    let deeper = deep_chain(alloc, 33)?;
+    let case = Case {
+        words: &["list"],
+        text: &deeper,
+        status: Status::TextFault,
+        output: "fault 34 2 TooDeep\n",
+    };
+    check(&rt, alloc, &case)
+}
+
+// Boxes in one another, each as large as her mother, so many below the first.
+fn deep_chain(alloc: Global, depth: u32) -> Result<Vec<u8>, Fail> {
+    let mut text = Vec::new(alloc);
+    for v in 0..=depth {
+        text.extend_from_slice(format!(in alloc; ":VOLU v{v} BOX 1 1 1 Air\n")?.as_bytes())?;
+    }
+    text.extend_from_slice(b":ROTM r0 0 0 0\n")?;
+    for v in 0..depth {
+        text.extend_from_slice(format!(in alloc;
+            ":PLACE v{} 1 v{v} r0 0 0 0\n",
+            v + 1
+        )?.as_bytes())?;
+    }
+    Ok(text)
+}
+
 // Expressions, parameters and grids, by hand: 2 cm and 10 mm are 20 and 10 steps of 1 mm, and so on.
 #[test]
 fn lengths_are_steps_of_the_grid(rt: HostRuntime) -> Result<(), Fail> {
@@ -370,6 +442,7 @@ fn other_words_give_the_usage_line(rt: HostRuntime) -> Result<(), Fail> {
         &["trace", "--grid=1*mm", "--grid=1*mm"],
         &["check", "--brief", "--brief"],
         &["trace", "--brief"],
+        &["list", "--brief"],
         &["check", "--grid=1*mm", "--brief", "--grid=1*mm"],
         &["sample", "65"],
         &["--help"],
