@@ -1,8 +1,10 @@
 -- How a check's parts make its clauses.
-use Rattle.std.proofs.Common.{◌≡◌, ℕ, Bool, true, false, List, [], ◌∷◌, Option, Result, Ok, Err, refl, ap, ◌∙◌, subst, arith}
-use Rattle.std.specs.Prelude.{nat_lt, ◌+◌, ◌||◌, count_by}
+use Rattle.std.proofs.Common.{◌≡◌, ℕ, Bool, true, false, List, [], ◌∷◌, Option, Result, Ok, Err, length, refl, sym, ap, ◌∙◌, subst, arith}
+use Rattle.std.specs.Prelude.{nat_lt, ◌||◌, count_by, filter}
+use Rattle.std.proofs.lemmas.List.Sums.{length-filter}
 use Rattle.std.specs.List.{list_any}
 use Rattle.std.proofs.Math.Bool.{cond}
+use Rattle.std.proofs.lemmas.Bool.Decides.{nat_tests}
 use Rattle.gx_io.specs.Bytes.{with_after, AppendsFront}
 use Rattle.gx_io.proofs.Joined.{with_after-twice, front-of_first, front-of_second, front-nothing}
 use Rattle.gx_tree.specs.Hierarchy.{Hierarchy}
@@ -18,14 +20,17 @@ use Rattle.g4exact.specs.declared.command.Verb.TheVariants.{Trace, Check, List a
 use Rattle.g4exact.specs.Output.{verdict_lines, check_text, checked_status, IsCheck, IsAnswer}
 use Rattle.g4exact.specs.Ends.{WritesAll, WritesFront, Wants}
 
+some-filter : {A : Type 0} (test : A → Bool) (xs : List A) → nat_lt 0 (length (filter test xs)) ≡ list_any test xs
+some-filter test [] = refl
+some-filter test (x ∷ xs) = one (test x) (some-filter test xs)
+  where
+    one : (b : Bool) → nat_lt 0 (length (filter test xs)) ≡ list_any test xs → nat_lt 0 (length (cond b (x ∷ filter test xs) (filter test xs))) ≡ (b || list_any test xs)
+    one true e = let more : nat_lt 0 (length (x ∷ filter test xs)) ≡ true = grind (arith, nat_tests) in more
+    one false e = e
+
 -- a count isn't 0 where there is one
 pub some-count_by : {A : Type 0} (test : A → Bool) (xs : List A) → nat_lt 0 (count_by test xs) ≡ list_any test xs
-some-count_by test [] = refl
-some-count_by test (x ∷ xs) = one (test x) (count_by test xs) (list_any test xs) (some-count_by test xs)
-  where
-    one : (b : Bool) (n : ℕ) (any : Bool) → nat_lt 0 n ≡ any → nat_lt 0 (cond b 1 0 + n) ≡ (b || any)
-    one true n any e = refl
-    one false n any e = let none : 0 + n ≡ n = omega arith in ap (nat_lt 0) none ∙ e
+some-count_by test xs = ap (nat_lt 0) (sym (length-filter test xs)) ∙ some-filter test xs
 
 -- verdicts and counts were written
 pub counted : (selection : Selection) (h : Hierarchy) (old mid new : Option (List ℕ)) (status : Status) → mid ≡ with_after old (verdict_lines selection h) → new ≡ with_after mid (counts_line (counts_of (verdicts h)))

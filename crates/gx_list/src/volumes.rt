@@ -31,12 +31,7 @@ impl Texts for Volumes<'_> {
 }
 
 #[tactic(auto, using(gx_io::proofs::Joined::joined, crate::proofs::Lines::volume_line))]
-fn write_volume<K: Sink>(
-    tag: &[u8],
-    tree: &Hierarchy,
-    v: u32,
-    sink: &mut K,
-) -> Result<(), Failed>
+fn write_volume<K: Sink>(tag: &[u8], tree: &Hierarchy, v: u32, sink: &mut K) -> Result<(), Failed>
     requires { v < length tree.now.volumes }
     ensures bytes { Writes (K.written sink.old) (K.written sink.new) (line_of (tag.now ∷ volume_words (volume_at tree.now.volumes v))) result }
     ensures cause { HasCause (K.faults sink.old) (K.faults sink.new) result }
