@@ -1,6 +1,6 @@
 -- The rotations of placements.
-use Rattle.std.proofs.Common.{◌≡◌, ℕ, ◌<◌, List, [], length, get_or, ◌∙◌, ap, zero-add, ℤ, pos, ◌+ℤ◌, ◌*ℤ◌, arith}
-use Rattle.std.proofs.lemmas.Int.{ints}
+use Rattle.std.proofs.Common.{◌≡◌, ℕ, ◌<◌, List, [], length, get_or, ◌∙◌, ap, zero-add, ℤ, pos, ◌*ℤ◌}
+use Rattle.std.proofs.Math.IntN.{one, *ℤ-zero, *ℤ-one, +ℤ_idl, +ℤ_idr}
 use Rattle.std.proofs.lemmas.List.FromFn.{length-map-range_with_len, get_or-map-range_with_len}
 use Rattle.gx_rotation.specs.Matrix.{Matrix, image, transpose}
 use Rattle.gx_rotation.specs.Rotation.{matrix_of, number_of, number_of-matrix_of}
@@ -18,21 +18,18 @@ pub line_at : (volumes : List Volume) (k : ℕ) → k < 24 → get_or (turn_line
 unfolding turn_lines
 line_at volumes k below = get_or-map-range_with_len (turn_line volumes) 0 24 k k [] below (zero-add k)
 
-first : (a b c : ℤ) → (a *ℤ pos 1 +ℤ b *ℤ pos 0) +ℤ c *ℤ pos 0 ≡ a
-first a b c = omega (arith, ints)
+times-one : (n : ℤ) → n *ℤ pos 1 ≡ n
+unfolding one
+times-one n = *ℤ-one n
 
-second : (a b c : ℤ) → (a *ℤ pos 0 +ℤ b *ℤ pos 1) +ℤ c *ℤ pos 0 ≡ b
-second a b c = omega (arith, ints)
-
-third : (a b c : ℤ) → (a *ℤ pos 0 +ℤ b *ℤ pos 0) +ℤ c *ℤ pos 1 ≡ c
-third a b c = omega (arith, ints)
+ruleset units = (times-one, *ℤ-zero, +ℤ_idl, +ℤ_idr)
 
 -- a row of a matrix is a unit vector turned back
 pub row_x : (m : Matrix) → image (transpose m) (record { x = pos 1; y = pos 0; z = pos 0 }) ≡ m.x
-row_x m = λ i. record { x = first m.x.x m.y.x m.z.x i; y = first m.x.y m.y.y m.z.y i; z = first m.x.z m.y.z m.z.z i }
+row_x m = simp units
 
 pub row_y : (m : Matrix) → image (transpose m) (record { x = pos 0; y = pos 1; z = pos 0 }) ≡ m.y
-row_y m = λ i. record { x = second m.x.x m.y.x m.z.x i; y = second m.x.y m.y.y m.z.y i; z = second m.x.z m.y.z m.z.z i }
+row_y m = simp units
 
 pub row_z : (m : Matrix) → image (transpose m) (record { x = pos 0; y = pos 0; z = pos 1 }) ≡ m.z
-row_z m = λ i. record { x = third m.x.x m.y.x m.z.x i; y = third m.x.y m.y.y m.z.y i; z = third m.x.z m.y.z m.z.z i }
+row_z m = simp units

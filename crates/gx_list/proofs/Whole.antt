@@ -53,8 +53,4 @@ text-placements all (mother ∷ volumes) =
 pub canonical_is : (h : Hierarchy) (rays : List Ray) → canonical h rays
     ≡ ((concat (turn_lines h.volumes) ++ concat (map (λ volume. line (volume_declared volume)) h.volumes)) ++ concat (map (λ mother. concat (lines_in h.volumes mother)) h.volumes))
     ++ concat (map (λ ray. line (Trace ray)) rays)
-canonical_is h rays = let volumes = h.volumes in
-    text-append (turns volumes ++ map volume_declared volumes ++ placements volumes) (map Trace rays)
-    ∙ ap (λ l. l ++ text (map Trace rays)) (text-append (turns volumes ++ map volume_declared volumes) (placements volumes))
-    ∙ ap (λ l. l ++ text (placements volumes) ++ text (map Trace rays)) (text-append (turns volumes) (map volume_declared volumes))
-    ∙ (λ i. text-turns volumes i ++ text-map volume_declared volumes i ++ text-placements volumes volumes i ++ text-map Trace rays i)
+canonical_is h rays = rw (text-append, text-append, text-append, text-turns, text-map volume_declared, text-placements h.volumes h.volumes, text-map Trace)
