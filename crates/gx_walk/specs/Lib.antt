@@ -1,4 +1,3 @@
 pub mod Entry
 pub mod Giving
 pub mod Hits
-pub mod Small

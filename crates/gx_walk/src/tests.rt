@@ -1,6 +1,7 @@
 ghost use Rattle.std.specs.Prelude.{◌≡◌, ◌<◌, ◌==◌, ◌&&◌, ℕ, Some, find};
 ghost use Rattle.std.specs.Option.{option_map};
-ghost use Rattle.gx_walk.specs.Small.{meets};
+ghost use Rattle.std.proofs.Common.{arith};
+ghost use Rattle.std.proofs.lemmas.Grind.{common_steps};
 
 use crate::{Frame, Geometry, Met, Scratch, walk_world};
 use gx_clip::Span;
@@ -36,7 +37,7 @@ impl Geometry for Small {
 
     ghost daughter_of = { λ g v k. option_map (λ d. d.volume) (find (λ d. d.mother == v && d.ordinal == k) g.daughters.items) };
 
-    ghost meets = { λ g mother k met e. meets (find (λ d. d.mother == mother.volume && d.ordinal == k) g.daughters.items) (λ d. d.volume) (λ d. d.span) mother.ray k met e };
+    ghost meets = { Prim.grind (arith, common_steps) };
 
     fn count(&self, _: u32) -> u32 {
         3

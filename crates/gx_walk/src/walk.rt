@@ -15,8 +15,8 @@ use gx_path::{Path, Rows};
 use gx_steps::Steps;
 use std::sync::ledger::Ledger;
 
-/// The rows of a ray that is inside the world strictly between the ends of a span: each row of the mother where the ray is
-/// inside none of her daughters, down to 32 below the world. It ends at the first row that isn't taken. It takes no memory.
+/// The rows of a ray that is inside the world strictly between the ends of a span: where it is inside no daughter of a
+/// volume, a row of the volume itself, down to 32 below the world. It ends at the first row that fails, and takes no memory.
 pub fn walk_world<G: Geometry, R: Rows, T: Ledger>(
     geometry: &G,
     world: &Frame,
