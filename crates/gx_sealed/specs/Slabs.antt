@@ -16,8 +16,8 @@ pub record IsInBox (box : Extent) (p : Vec4) : Type 0 where
 abbrev pub IsCrossed : Slab → RayParameter → Type 0
 IsCrossed slab t = IsBetween slab.low slab.high (pos t.num *ℤ slab.speed) (pos t.den)
 
--- How far the middle of a rectangle of two slabs is from the ray's line, and how far its corners are at most from a line through
--- its middle, both times twice the speed.
+-- Of the rectangle of two slabs: how far its middle is from the ray's line, and how far its corners are at most from the line
+-- through its middle along the ray; both times twice the length of the direction.
 abbrev pub gap_of : Slab → Slab → ℕ
 gap_of a b = unsigned_abs (a.speed *ℤ (b.low +ℤ b.high) -ℤ b.speed *ℤ (a.low +ℤ a.high))
 

@@ -54,8 +54,8 @@ impl Model for Sealed {
 }
 
 impl Sealed {
-    /// The hierarchy, sealed, where it is clean; else it is handed back with the first verdict that refutes it. No other
-    /// call takes memory.
+    /// The hierarchy, sealed, where it is clean; else it is handed back with the first verdict that refutes it. It is dropped
+    /// where memory is wanting. No other call takes memory.
     pub fn new(alloc: Global, tree: Hierarchy) -> Result<Sealed, SealError>
         ensures ok { IfOk result (λ sealed. sealed ≡ tree) }
         ensures kept { IfOk result IsSealed }
