@@ -1,1 +1,3 @@
+pub mod Placed
 pub mod Sealed
+pub mod Slabs

@@ -3,7 +3,10 @@
 
 mod enter;
 mod error;
+mod misses;
+mod placed;
 mod sealed;
+mod slab;
 mod solid;
 #[cfg(test)]
 mod tests;

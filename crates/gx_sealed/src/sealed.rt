@@ -7,10 +7,13 @@ ghost use Rattle.gx_clip.specs.Clip.{IsClip};
 ghost use Rattle.gx_shapes.specs.Solid.{solid_of};
 ghost use Rattle.gx_tree.specs.Hierarchy.{volume_at, instances};
 ghost use Rattle.gx_frame.specs.Frames.{local_ray as local_ray_of, IsMet};
+ghost use Rattle.gx_sealed.specs.Placed.{IsDaughter};
 ghost use Rattle.gx_sealed.specs.Sealed.{IsSealed, IsSealCause, IsMostDaughters, IsTraceable};
 
 use crate::SealError;
 use crate::enter::local_ray;
+use crate::misses::misses;
+use crate::placed::{Daughter, all_daughters};
 use crate::solid::span_in;
 use gx_check::first_refuted;
 use gx_clip::Span;
@@ -26,6 +29,8 @@ use std::sync::ledger::Ledger;
 #[derive(Drop)]
 pub struct Sealed {
     tree: Hierarchy,
+    // Those of each volume, for one look at a daughter.
+    daughters: Vec<Vec<Daughter>>,
 }
 
 /// A step down into a daughter: her volume and her copy number.
@@ -36,19 +41,21 @@ pub struct Step {
 }
 
 impl Model for Sealed {
+    ghost use Rattle.std.specs.Prelude.{◌≡◌, map};
     ghost use Rattle.gx_tree.specs.Hierarchy.{Hierarchy};
     ghost use Rattle.gx_sealed.specs.Sealed.{IsSealed};
+    ghost use Rattle.gx_sealed.specs.Placed.{all_daughters};
 
     ghost Value = { Hierarchy };
 
     ghost view = { λ s. s.tree };
 
-    ghost invariant = { λ s. IsSealed s.tree };
+    ghost invariant = { λ s. IsSealed s.tree × (map (λ d. d.items) s.daughters.items ≡ all_daughters s.tree) };
 }
 
 impl Sealed {
-    /// The hierarchy, sealed, where it is clean; else it is handed back with the first verdict that refutes it. No other
-    /// call takes memory.
+    /// The hierarchy, sealed, where it is clean; else it is handed back with the first verdict that refutes it. It is dropped
+    /// where memory is wanting. No other call takes memory.
     pub fn new(alloc: Global, tree: Hierarchy) -> Result<Sealed, SealError>
         ensures ok { IfOk result (λ sealed. sealed ≡ tree) }
         ensures kept { IfOk result IsSealed }
@@ -59,7 +66,8 @@ impl Sealed {
         }
         // What each hierarchy keeps is known from here on.
         let _ = tree.world();
-        Ok(Sealed { tree })
+        let daughters = all_daughters(alloc, &tree)?;
+        Ok(Sealed { tree, daughters })
     }
 
     /// The number of the world.
@@ -109,7 +117,7 @@ impl Sealed {
         ensures copy { ForSome (slice_get (instances self.now mother) k) (λ i. result.copy ≡ i.copy) }
         ensures kept { IsSealed self.now }
     {
-        let instance = self.tree.instance(mother, k);
+        let instance = self.daughter(mother, k).instance;
         Step {
             volume: instance.volume,
             copy: instance.copy,
@@ -141,8 +149,11 @@ impl Sealed {
         ensures kept { IsSealed self.now }
     {
         tests.tick();
-        let instance = self.tree.instance(mother, k);
-        span_in(self.tree.solid(instance.volume), &local_ray(&instance, ray))
+        let Daughter { instance, extent } = self.daughter(mother, k);
+        if misses(extent, ray) {
+            return None;
+        }
+        span_in(self.tree.solid(instance.volume), &local_ray(instance, ray))
     }
 
     /// A ray of the mother's frame in the frame of the daughter with this ordinal. Its origin is at most M farther out on each
@@ -157,6 +168,15 @@ impl Sealed {
         ensures moves { HasDirection result }
         ensures kept { IsSealed self.now }
     {
-        local_ray(&self.tree.instance(mother, k), ray)
+        local_ray(&self.daughter(mother, k).instance, ray)
+    }
+
+    fn daughter(&self, mother: u32, k: u32) -> &Daughter
+        requires mother { mother < length self.now.volumes }
+        requires ordinal { k < length (instances self.now mother) }
+        ensures daughter { IsDaughter self.now mother k result.now }
+        ensures kept { IsSealed self.now }
+    {
+        &self.daughters[mother as usize][k as usize]
     }
 }
