@@ -12,6 +12,9 @@ open-append : (xs ys : List Piece) → open_rows (xs ++ ys) ≡ open_rows xs ++ 
 open-append [] ys = refl
 open-append (p ∷ xs) ys = go (is_below p.from p.to) (open-append xs ys)
   where
+    row : Row
+    row = record { from = p.from; to = p.to; path = p.path }
+
     go : (b : Bool) → open_rows (xs ++ ys) ≡ open_rows xs ++ open_rows ys
         → (if b then record { from = p.from; to = p.to; path = p.path } ∷ open_rows (xs ++ ys) else open_rows (xs ++ ys)) ≡ (if b then record { from = p.from; to = p.to; path = p.path } ∷ open_rows xs else open_rows xs) ++ open_rows ys
     go true e = ap (λ l. record { from = p.from; to = p.to; path = p.path } ∷ l) e
@@ -35,6 +38,9 @@ roomy s false t false e = e
 open-gap : (s : RayParameter) (m : Bool) (t : RayParameter) (n : Bool) → open_rows (gap s m t n) ≡ between s t
 open-gap s m t n = go (is_below s t) refl (has_room s m t n) refl
   where
+    row : Row
+    row = record { from = s; to = t; path = [] }
+
     go : (b : Bool) → is_below s t ≡ b → (r : Bool) → has_room s m t n ≡ r
         → open_rows (if r then record { from = s; from_in = m; to = t; to_in = n; path = [] } ∷ [] else []) ≡ between s t
     go true e true f = refl

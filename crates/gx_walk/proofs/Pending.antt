@@ -94,14 +94,10 @@ module _ (hits : Frame → List (Hit Frame)) (k n : ℕ) (level : n + 1 ≡ k) (
       ∙ ap (λ j. items_below items path (rows_of hits j from to frame)) (sym (add-one n) ∙ level) in
       record { each = λ new result w. subst (λ l. Writes old new l result) is w }
 
-  pub cost-all : (count : ℕ → ℕ) → count frame.volume + sum_by (λ h. cost_of count hits n h.daughter) (map hit_of mets) ≡ cost_of count hits k frame
-  cost-all count = ap (λ l. count frame.volume + sum_by (λ h. cost_of count hits n h.daughter) l) same ∙ ap (λ j. cost_of count hits j frame) (sym (add-one n) ∙ level)
+  pub cost-all : (count : Frame → ℕ) → count frame + sum_by (λ h. cost_of count hits n h.daughter) (map hit_of mets) ≡ cost_of count hits k frame
+  cost-all count = ap (λ l. count frame + sum_by (λ h. cost_of count hits n h.daughter) l) same ∙ ap (λ j. cost_of count hits j frame) (sym (add-one n) ∙ level)
 
 -- the cost of one hit more
 pub sum-next : (f : Hit Frame → ℕ) (mets : List Met) (i : ℕ) (m : Met) → m ≡ get_or mets i m → i < length mets
     → sum_by f (map hit_of (drop i mets)) ≡ f (hit_of m) + sum_by f (map hit_of (drop (i + 1) mets))
 sum-next f mets i m is h = ap (λ l. sum_by f (map hit_of l)) (drop-next mets i m is h) ∙ sum_by-cons f (hit_of m) (map hit_of (drop (i + 1) mets))
-
--- no hit is left
-pub sum-last : (f : Hit Frame → ℕ) (mets : List Met) (i : ℕ) → length mets ≤ i → sum_by f (map hit_of (drop i mets)) ≡ 0
-sum-last f mets i h = ap (λ l. sum_by f (map hit_of l)) (drop-all mets i h)

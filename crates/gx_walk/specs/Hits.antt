@@ -19,9 +19,9 @@ abbrev pub hits_of : (Frame → ℕ → Option Met) → (ℕ → ℕ) → Frame 
 hits_of met count frame = sorted (λ k. option_map hit_of (met frame k)) (count frame.volume)
 
 -- the tests of a walk so many levels deep: one for each daughter of each volume that it comes to
-abbrev pub cost_of : (ℕ → ℕ) → (Frame → List (Hit Frame)) → ℕ → Frame → ℕ
-cost_of count hits zero frame = 0
-cost_of count hits (suc n) frame = count frame.volume + sum_by (λ h. cost_of count hits n h.daughter) (hits frame)
+abbrev pub cost_of : {D : Type 0} → (D → ℕ) → (D → List (Hit D)) → ℕ → D → ℕ
+cost_of count hits zero d = 0
+cost_of count hits (suc n) d = count d + sum_by (λ h. cost_of count hits n h.daughter) (hits d)
 
 -- a parameter as a fraction
 abbrev pub fraction_of : RayParameter → Fraction

@@ -1,3 +1,4 @@
 pub mod Entry
 pub mod Giving
 pub mod Hits
+pub mod Small

@@ -1,4 +1,4 @@
-ghost use Rattle.std.specs.Prelude.{◌≡◌, ◌≤◌, ◌+◌, Some, map, vec_capacity};
+ghost use Rattle.std.specs.Prelude.{◌≡◌, ℕ, ◌≤◌, ◌+◌, Some, map, vec_capacity};
 ghost use Rattle.std.specs.List.{All};
 ghost use Rattle.std.specs.List.Sorted.{IsPermutation, IsSortedBy};
 ghost use Rattle.gx_walk.specs.Hits.{hit_of, hits_of};
@@ -15,6 +15,7 @@ pub fn collect<G: Geometry, T: Ledger>(
     hits: &mut Vec<Met>,
     tests: &mut Steps<T>,
 )
+    requires known { (n : ℕ) × G.knows geometry.now n mother.now }
     requires room { G.count_of geometry.now mother.now.volume ≤ vec_capacity hits.old }
     ensures hits { map hit_of hits.new.items ≡ hits_of (G.met_of geometry.now) (G.count_of geometry.now) mother.now }
     ensures known { All (λ m. G.met_of geometry.now mother.now m.ordinal ≡ Some m) hits.new.items }
@@ -32,13 +33,14 @@ fn meet_all<G: Geometry, T: Ledger>(
     hits: &mut Vec<Met>,
     tests: &mut Steps<T>,
 )
+    requires known { (n : ℕ) × G.knows geometry.now n mother.now }
     requires room { G.count_of geometry.now mother.now.volume ≤ vec_capacity hits.old }
     ensures met { AreMet (G.met_of geometry.now mother.now) (G.count_of geometry.now mother.now.volume) hits.new.items }
     ensures room { vec_capacity hits.new ≡ vec_capacity hits.old }
     ensures tests { tests.new ≡ tests.old + G.count_of geometry.now mother.now.volume }
 {
     hits.clear();
-    for k in 0..geometry.count(mother.volume) {
+    for k in 0..geometry.count(mother) {
         if let Some(met) = geometry.meet(mother, k, tests) {
             hits.push_reserved(met);
         }

@@ -25,6 +25,7 @@ pub fn emit<G: Geometry, R: Rows, T: Ledger>(
     rows: &mut R,
     tests: &mut Steps<T>,
 ) -> Result<(), Failed>
+    requires known { G.knows geometry.now (length levels.old) frame.now }
     requires room { HaveRoom (G.count_of geometry.now) (map vec_capacity levels.old) }
     requires path { length path.old + length levels.old ≤ max_length }
     requires takes { TakesBelow (R.takes rows.old) (G.daughter_of geometry.now) path.old frame.now.volume }
@@ -34,8 +35,8 @@ pub fn emit<G: Geometry, R: Rows, T: Ledger>(
     ensures same_items { R.items rows.new ≡ R.items rows.old }
     ensures same_takes { R.takes rows.new ≡ R.takes rows.old }
     ensures cause { HasCause (R.faults rows.old) (R.faults rows.new) result }
-    ensures tests { OnOk result (tests.new ≡ tests.old + cost_of (G.count_of geometry.now) (hits_of (G.met_of geometry.now) (G.count_of geometry.now)) (length levels.old) frame.now) }
-    ensures few_tests { tests.new ≤ tests.old + cost_of (G.count_of geometry.now) (hits_of (G.met_of geometry.now) (G.count_of geometry.now)) (length levels.old) frame.now }
+    ensures tests { OnOk result (tests.new ≡ tests.old + cost_of (λ f. G.count_of geometry.now f.volume) (hits_of (G.met_of geometry.now) (G.count_of geometry.now)) (length levels.old) frame.now) }
+    ensures few_tests { tests.new ≤ tests.old + cost_of (λ f. G.count_of geometry.now f.volume) (hits_of (G.met_of geometry.now) (G.count_of geometry.now)) (length levels.old) frame.now }
 {
     let Some((level, deeper)) = levels.split_first_mut() else {
         return give(span.from, span.to, path, rows);

@@ -1,7 +1,6 @@
 ghost use Rattle.std.specs.Prelude.{◌≡◌, ◌<◌, ◌==◌, ◌&&◌, ℕ, Some, find};
 ghost use Rattle.std.specs.Option.{option_map};
-ghost use Rattle.std.proofs.Common.{arith};
-ghost use Rattle.std.proofs.lemmas.Grind.{common_steps};
+ghost use Rattle.gx_walk.specs.Small.{meets};
 
 use crate::{Frame, Geometry, Met, Scratch, walk_world};
 use gx_clip::Span;
@@ -37,9 +36,13 @@ impl Geometry for Small {
 
     ghost daughter_of = { λ g v k. option_map (λ d. d.volume) (find (λ d. d.mother == v && d.ordinal == k) g.daughters.items) };
 
-    ghost meets = { Prim.grind (arith, common_steps) };
+    ghost knows = { λ _ _ _. Unit {0} };
 
-    fn count(&self, _: u32) -> u32 {
+    ghost knows_met = { λ _ _ _ _ _ _ _. tt };
+
+    ghost meets = { λ g mother k met e. meets (find (λ d. d.mother == mother.volume && d.ordinal == k) g.daughters.items) (λ d. d.volume) (λ d. d.span) mother.ray k met e };
+
+    fn count(&self, _: &Frame) -> u32 {
         3
     }
 

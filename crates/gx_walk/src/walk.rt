@@ -15,8 +15,8 @@ use gx_path::{Path, Rows};
 use gx_steps::Steps;
 use std::sync::ledger::Ledger;
 
-/// The rows of a ray that is inside the world strictly between the ends of a span: where it is inside no daughter of a
-/// volume, a row of the volume itself, down to 32 below the world. It ends at the first row that fails, and takes no memory.
+/// The rows of a ray that is inside the world strictly between the ends of a span: each row of the mother where the ray is
+/// inside none of her daughters, down to 32 below the world. It ends at the first row that isn't taken. It takes no memory.
 pub fn walk_world<G: Geometry, R: Rows, T: Ledger>(
     geometry: &G,
     world: &Frame,
@@ -25,6 +25,7 @@ pub fn walk_world<G: Geometry, R: Rows, T: Ledger>(
     rows: &mut R,
     tests: &mut Steps<T>,
 ) -> Result<(), Failed>
+    requires known { G.knows geometry.now max_length world.now }
     requires room { (v : ℕ) → G.count_of geometry.now v ≤ scratch.old }
     requires takes { (row : Given) (v : ℕ) → Leads (G.daughter_of geometry.now) world.now.volume row.path v → IsTrue (R.takes rows.old row) }
     ensures room { scratch.new ≡ scratch.old }
@@ -32,8 +33,8 @@ pub fn walk_world<G: Geometry, R: Rows, T: Ledger>(
     ensures same_items { R.items rows.new ≡ R.items rows.old }
     ensures same_takes { R.takes rows.new ≡ R.takes rows.old }
     ensures cause { HasCause (R.faults rows.old) (R.faults rows.new) result }
-    ensures tests { OnOk result (tests.new ≡ tests.old + cost_of (G.count_of geometry.now) (hits_of (G.met_of geometry.now) (G.count_of geometry.now)) max_length world.now) }
-    ensures few_tests { tests.new ≤ tests.old + cost_of (G.count_of geometry.now) (hits_of (G.met_of geometry.now) (G.count_of geometry.now)) max_length world.now }
+    ensures tests { OnOk result (tests.new ≡ tests.old + cost_of (λ f. G.count_of geometry.now f.volume) (hits_of (G.met_of geometry.now) (G.count_of geometry.now)) max_length world.now) }
+    ensures few_tests { tests.new ≤ tests.old + cost_of (λ f. G.count_of geometry.now f.volume) (hits_of (G.met_of geometry.now) (G.count_of geometry.now)) max_length world.now }
 {
     let mut path = Path::new(*scratch.levels.allocator());
     emit(

@@ -13,8 +13,8 @@ use Rattle.gx_walk.proofs.emit.+emit.Goals as goal
 
 pub loop-met-init : goal.loop-met-init
 loop-met-init g t c =
-    let count = g.G.Geometry.count_of c.args.geometry.now in
-    let hits = hits_of (g.G.Geometry.met_of c.args.geometry.now) count in
+    let count = λ (f : Frame). g.G.Geometry.count_of c.args.geometry.now f.volume in
+    let hits = hits_of (g.G.Geometry.met_of c.args.geometry.now) (g.G.Geometry.count_of c.args.geometry.now) in
     let k = length c.args.levels.now in
     let n = length c.in-Some.deeper.now in
     let frame = c.args.frame.now in
@@ -31,6 +31,9 @@ loop-met-init g t c =
       tests = omega (arith, c.collect.ensures.tests, cost-all hits k n level frame mets same count);
       rows = owes-all hits k n level frame mets same (g.R.Rows.items c.args.rows.now) c.args.path.now (parameter_of c.args.span.from) (parameter_of c.args.span.to) (g.R.Rows.held c.args.rows.now);
     }
+
+pub collect-requires-clause-known : goal.collect-requires-clause-known
+collect-requires-clause-known g t c = (length c.args.levels.now, c.requires.known)
 
 pub give-requires-clause-takes : goal.give-requires-clause-takes
 give-requires-clause-takes g t c =
@@ -84,8 +87,8 @@ pub loop-met-preserved : goal.loop-met-preserved
 loop-met-preserved g t c =
     let items = g.R.Rows.items c.args.rows.now in
     let path = c.args.path.now in
-    let count = g.G.Geometry.count_of c.args.geometry.now in
-    let hits = hits_of (g.G.Geometry.met_of c.args.geometry.now) count in
+    let count = λ (f : Frame). g.G.Geometry.count_of c.args.geometry.now f.volume in
+    let hits = hits_of (g.G.Geometry.met_of c.args.geometry.now) (g.G.Geometry.count_of c.args.geometry.now) in
     let n = length c.in-Some.deeper.now in
     let mets = c.deref-met-items.result.now in
     let i = c.loop-met.met-index in
@@ -127,13 +130,15 @@ emit-requires g t c κs lives =
     let count = g.G.Geometry.count_of c.args.geometry.now in
     let inv = c.loop-met.invariant in
     let known = known-at met_of c.deref-met-items.result.now c.collect.new.hits.items c.loop-met.met-index met c.collect.ensures.known c.deref-met-items.ensures.value c.met-item.is c.loop-met-test.true in
+    let below = subst (λ j. g.G.Geometry.knows c.args.geometry.now j frame) (sym c.in-Some.ensures.cases.1) c.requires.known in
+    let knows = subst (λ j. g.G.Geometry.knows c.args.geometry.now j met.frame) (sym c.loop-met.auto.deeper) (g.met.G.Geometry.knows_met c.args.geometry.now frame (length c.in-Some.deeper.now) met.ordinal met below known) in
     let into = (g.met.G.Geometry.meets c.args.geometry.now frame met.ordinal met known).1 in
     let takes = takes-within (g.R.Rows.takes c.args.rows.now) (g.R.Rows.takes c.give-in-loop-met.new.rows) daughter path c.loop-met.path frame.volume c.requires.takes
     (c.in_ok-give.ensures.same_takes ∙ inv.takes) inv.path met.ordinal met.frame.volume c.push.new.self into c.push.ensures in
     let room = subst (HaveRoom count) (sym inv.room) (subst (λ (levels : List (Vec Met Global)). HaveRoom count (map vec_capacity levels)) c.in-Some.ensures.cases.0 c.requires.room).1 in
     let longer : length c.push.new.self ≡ length path + 1 = ap length (c.push.ensures ∙ ap (λ p. p ++ met.ordinal ∷ []) inv.path) ∙ length-append path (met.ordinal ∷ []) in
     let short : length c.push.new.self + length c.loop-met.deeper ≤ max_length = omega (arith, longer, c.loop-met.auto.deeper, c.in-Some.ensures.cases.1, c.requires.path) in
-    (search rules, (lives.0, (lives.1.0, (lives.1.1.0, (lives.1.1.1, (room, (short, takes)))))))
+    (search rules, (lives.0, (lives.1.0, (lives.1.1.0, (lives.1.1.1, (knows, (room, (short, takes))))))))
 
 pub returns-clause-rows : goal.returns-clause-rows
 returns-clause-rows g t c =
@@ -146,3 +151,14 @@ returns-clause-rows g t c =
     written-last items c.args.path.now (λ (h : Hit Frame). rows_of hits n h.from h.to h.daughter) to (g.R.Rows.held c.args.rows.now) (g.R.Rows.held c.loop-met.rows) _ s
     c.deref-met-items.result.now c.loop-met.met-index inv.rows c.loop-met-test.false (g.R.Rows.held c.give-2.new.rows) c.give-2.result _
     (same-below items (g.R.Rows.items c.loop-met.rows) c.args.path.now c.loop-met.path (between s to) inv.items inv.path) c.give-2.ensures.rows
+
+pub returns-in_err-emit-clause-few_tests : goal.returns-in_err-emit-clause-few_tests
+returns-in_err-emit-clause-few_tests g t c =
+    let count = λ (f : Frame). g.G.Geometry.count_of c.args.geometry.now f.volume in
+    let hits = hits_of (g.G.Geometry.met_of c.args.geometry.now) (g.G.Geometry.count_of c.args.geometry.now) in
+    let n = length c.in-Some.deeper.now in
+    let met = c.met-item.result in
+    let cost = λ (h : Hit Frame). cost_of count hits n h.daughter in
+    let few : c.emit.new.tests ≤ c.loop-met.tests + cost (hit_of met) =
+    subst (λ j. c.emit.new.tests ≤ c.loop-met.tests + cost_of count hits j met.frame) c.loop-met.auto.deeper c.in_err-emit.ensures.few_tests in
+    omega (arith, few, sum-next cost c.deref-met-items.result.now c.loop-met.met-index met c.met-item.is c.loop-met-test.true, c.loop-met.invariant.tests)

@@ -1,6 +1,7 @@
 use Rattle.std.proofs.Common.{length, ◌≡◌, ◌+◌, ◌≤ℤ◌, pos, vec_capacity, drop, map}
 use Rattle.std.specs.Prelude.{sum_by}
 use Rattle.gx_fraction.specs.Fraction.{parameter_of}
+use Rattle.gx_walk.specs.declared.met.Frame.{Frame}
 use Rattle.gx_walk.specs.Hits.{cost_of, hit_of, hits_of}
 use Rattle.gx_walk.specs.Giving.{items_below, rows_of}
 use Rattle.gx_walk.proofs.Pending.{Owes, pending}
@@ -12,8 +13,8 @@ decreases-emit g l = length l.levels.now
 -- what is still to be given of the volume's rows begins here
 abbrev pub invariant-loop-met : goal.invariant-loop-met
 invariant-loop-met g l =
-    let count = g.G.Geometry.count_of l.geometry in
-    let hits = hits_of (g.G.Geometry.met_of l.geometry) count in
+    let count = λ (f : Frame). g.G.Geometry.count_of l.geometry f.volume in
+    let hits = hits_of (g.G.Geometry.met_of l.geometry) (g.G.Geometry.count_of l.geometry) in
     let n = length l.initial.deeper in
     let left = drop l.met-index l.met-items in
     record {

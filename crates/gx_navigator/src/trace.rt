@@ -1,0 +1,54 @@
+ghost use Rattle.std.specs.Prelude.{◌≡◌, ℕ, IsTrue, ◌≤◌, ◌+◌, List, length, unsigned_abs, EachIndex, OnOk};
+ghost use Rattle.gx_num.specs.declared.vector.TheConstants.{M};
+ghost use Rattle.gx_num.specs.Vector.{IsWithin};
+ghost use Rattle.gx_num.specs.Ray.{HasDirection};
+ghost use Rattle.gx_io.specs.Bytes.{HasCause, Writes};
+ghost use Rattle.gx_tree.specs.Hierarchy.{instances};
+ghost use Rattle.gx_tree.specs.Deepest.{path_along};
+ghost use Rattle.gx_path.specs.declared.row.Row.{Row as Given};
+ghost use Rattle.gx_path.specs.Report.{Row, IsReport};
+ghost use Rattle.gx_walk.specs.Hits.{Leads, items_of};
+ghost use Rattle.gx_navigator.specs.Paths.{daughter_of};
+ghost use Rattle.gx_navigator.specs.Tests.{IsTestCount};
+
+use crate::tracer::Tracer;
+use gx_io::Failed;
+use gx_num::Ray;
+use gx_path::Rows;
+use gx_sealed::Sealed;
+use gx_steps::Steps;
+use gx_walk::{Frame, Scratch, walk_world};
+use std::sync::ledger::Ledger;
+
+/// The rows of the ray's report, one after another. It ends with `Failed` at the first row that isn't taken. The scratch has
+/// room for the daughters of each volume. It takes no memory, and reads no index.
+pub fn trace_ray<R: Rows, T: Ledger, Q: Ledger>(
+    sealed: &Sealed,
+    ray: &Ray,
+    scratch: &mut Scratch,
+    rows: &mut R,
+    tests: &mut Steps<T>,
+    reads: &mut Steps<Q>,
+) -> Result<(), Failed>
+    requires origin { IsWithin (unsigned_abs M) ray.now.o }
+    requires direction { IsWithin (unsigned_abs M) ray.now.d }
+    requires moves { HasDirection ray.now }
+    requires room { EachIndex sealed.now.volumes (λ v. length (instances sealed.now v) ≤ scratch.old) }
+    requires takes { (row : Given) (v : ℕ) → Leads (daughter_of sealed.now) sealed.now.world row.path v → IsTrue (R.takes rows.old row) }
+    ensures report { (report : List Row) × IsReport (path_along sealed.now ray.now) report × Writes (R.held rows.old) (R.held rows.new) (items_of (R.items rows.old) report) result }
+    ensures same_items { R.items rows.new ≡ R.items rows.old }
+    ensures same_takes { R.takes rows.new ≡ R.takes rows.old }
+    ensures cause { HasCause (R.faults rows.old) (R.faults rows.new) result }
+    ensures room { scratch.new ≡ scratch.old }
+    ensures tests { (n : ℕ) × IsTestCount sealed.now ray.now n × (tests.new ≤ tests.old + n) × OnOk result (tests.new ≡ tests.old + n) }
+    ensures reads { reads.new ≡ reads.old }
+{
+    let Some(span) = sealed.world_span(ray) else {
+        return Ok(());
+    };
+    let world = Frame {
+        volume: sealed.world(),
+        ray: *ray,
+    };
+    walk_world(&Tracer { sealed }, &world, span, scratch, rows, tests)
+}
