@@ -1,6 +1,6 @@
 -- How an answer through a buffer ends.
 use Rattle.std.proofs.Common.{◌≡◌, ℕ, Bool, true, false, List, [], ◌∷◌, ◌++◌, Option, None, Some, Result, Ok, Err, OnOk, refl, sym, ap, ◌∙◌, subst, append-nil, take, length, arith, length-append}
-use Rattle.std.specs.Prelude.{if◌then◌else◌}
+use Rattle.std.specs.Prelude.{find, if◌then◌else◌}
 use Rattle.std.specs.List.{list_any}
 use Rattle.std.proofs.lemmas.List.{take_all}
 use Rattle.gx_io.specs.Bytes.{with_after, next_fault, Grows, AppendsBut, AppendsFront}
@@ -8,8 +8,7 @@ use Rattle.gx_io.specs.declared.error.IoError.{IoError}
 use Rattle.gx_io.specs.declared.error.IoError.TheVariants as io
 use Rattle.gx_io.proofs.Gathered.{front-gathered, with_after-none}
 use Rattle.gx_fraction.specs.Fraction.{Fraction}
-use Rattle.gx_tree.specs.declared.instance.Instance.{Instance}
-use Rattle.gx_tree.specs.Hierarchy.{Hierarchy, instances}
+use Rattle.gx_check.specs.declared.verdict.Verdict.{Verdict}
 use Rattle.gx_check.specs.Verdicts.{verdicts, refutes}
 use Rattle.gx_gather.specs.declared.fault.TextFault.{TextFault}
 use Rattle.gx_link.specs.declared.input.Input.{Input}
@@ -28,13 +27,13 @@ Tells Refuted = Unit {0}
 Tells Faulty = Unit {0}
 Tells status = ⊥
 
-traced_tells : (is : List Instance) (input : Input) (bytes : List ℕ) (status : Status) → IsTraced is input bytes status → Tells status
-traced_tells [] input bytes status (trace, e) = subst Tells (sym e) tt
-traced_tells (i ∷ is) input bytes status (line, e) = subst Tells (sym e) tt
+traced_tells : (refuted : Option Verdict) (input : Input) (bytes : List ℕ) (status : Status) → IsTraced refuted input bytes status → Tells status
+traced_tells None input bytes status (trace, e) = subst Tells (sym e) tt
+traced_tells (Some verdict) input bytes status (line, e) = subst Tells (sym e) tt
 
 answer_tells : (verb : Verb) (read : Result Input TextFault) (bytes : List ℕ) (status : Status) → IsAnswer verb read bytes status → Tells status
 answer_tells verb (Err fault) bytes status (line, e) = subst Tells (sym e) tt
-answer_tells Trace (Ok input) bytes status is = traced_tells (instances input.tree input.tree.world) input bytes status is
+answer_tells Trace (Ok input) bytes status is = traced_tells (find refutes (verdicts input.tree)) input bytes status is
 answer_tells Listed (Ok input) bytes status (text, e) = subst Tells (sym e) tt
 answer_tells (Check selection) (Ok input) bytes status (text, e) = subst Tells (sym e) (by (list_any refutes (verdicts input.tree)))
   where

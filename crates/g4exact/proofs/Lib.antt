@@ -1,5 +1,6 @@
 pub mod Answered
 pub mod Checks
 pub mod Feeding
+mod Paths
 pub mod Runs
 pub mod Traces

@@ -1,33 +1,49 @@
 -- Traces: each list of rays has one, and it grows ray by ray.
-use Rattle.std.proofs.Common.{◌≡◌, ℕ, suc, zero, ◌+◌, ◌≤◌, nat_eq, false, List, [], ◌∷◌, ◌++◌, length, drop, Option, Some, refl, sym, ap, ◌∙◌, subst, append_assoc, append-nil}
-use Rattle.std.specs.Prelude.{slice_get}
-use Rattle.std.specs.List.{AllByRecursion}
+use Rattle.std.proofs.Common.{◌≡◌, ℕ, Bool, suc, zero, ◌+◌, ◌≤◌, List, [], ◌∷◌, ◌++◌, length, drop, Option, None, Some, Result, refl, sym, ap, ◌∙◌, subst, append_assoc, append-nil}
+use Rattle.std.specs.Prelude.{slice_get, find}
+use Rattle.std.specs.List.{flat_map, AllByRecursion}
 use Rattle.std.proofs.lemmas.List.{drop_more, drop_all}
 use Rattle.std.proofs.lemmas.Option.{slice_get_within, get_or_from_slice_get}
 use Rattle.gx_num.specs.declared.ray.Ray.{Ray}
-use Rattle.gx_navigator.proofs.Worlds.{report_of}
-use Rattle.gx_shapes.specs.Accepted.{IsSolid}
 use Rattle.gx_io.specs.Bytes.{with_after, AppendsFront}
 use Rattle.gx_io.proofs.Joined.{with_after-twice, with_after-nothing, front-of_first, front-of_second}
-use Rattle.gx_path.specs.Report.{Row, IsReport}
+use Rattle.gx_path.specs.declared.row.Row.{Row as Given}
+use Rattle.gx_path.specs.Report.{Row, row_of, IsReport}
 use Rattle.gx_gather.specs.Rays.{IsTraceable}
-use Rattle.gx_tree.specs.declared.instance.Instance.{Instance}
-use Rattle.gx_tree.specs.Hierarchy.{Hierarchy, volume_at, instances}
+use Rattle.gx_tree.specs.Hierarchy.{Hierarchy}
 use Rattle.gx_tree.specs.Deepest.{path_along}
-use Rattle.g4exact.specs.Output.{world_name, ray_text, IsTrace}
+use Rattle.gx_nest.proofs.Found.{each_ray}
+use Rattle.gx_sealed.specs.Sealed.{IsSealed}
+use Rattle.gx_print.specs.Range.{is_path}
+use Rattle.gx_print.specs.Texts.{ray_head, row_text}
+use Rattle.gx_io.specs.declared.error.IoError.{IoError}
+use Rattle.gx_check.specs.declared.verdict.Verdict.{Verdict}
+use Rattle.gx_check.specs.Verdicts.{verdicts, refutes}
+use Rattle.gx_link.specs.declared.input.Input.{Input}
+use Rattle.g4exact.specs.declared.outcome.Status.{Status}
+use Rattle.g4exact.specs.declared.command.Verb.TheVariants.{Trace}
+use Rattle.g4exact.specs.Ends.{Answers}
+use Rattle.g4exact.specs.Output.{ray_text, IsTrace, IsReported, IsRefuted, IsTraced, IsWritten}
+
+-- the line of each row, and the rows that have one
+abbrev pub texts_in : Hierarchy → Given → List ℕ
+texts_in h row = row_text h (row_of row.from row.to row.path)
+
+abbrev pub places_in : Hierarchy → Given → Bool
+places_in h row = is_path h h.world row.path
 
 -- each of the rays has a report
-traced_all : (h : Hierarchy) → IsSolid (volume_at h.volumes h.world).solid → instances h h.world ≡ [] → (number : ℕ) (rays : List Ray) → AllByRecursion IsTraceable rays → (bytes : List ℕ) × IsTrace h number rays bytes
-traced_all h shape alone number [] kept = ([], refl)
-traced_all h shape alone number (ray ∷ rays) kept =
-    let report = report_of h ray shape alone kept.0.moves in
-    let rest = traced_all h shape alone (number + 1) rays kept.1 in
-    (ray_text (world_name h) number report.0 ++ rest.0, (report.0, rest.0, report.1, rest.1, refl))
+traced_all : (h : Hierarchy) → IsSealed h → (number : ℕ) (rays : List Ray) → AllByRecursion IsTraceable rays → (bytes : List ℕ) × IsTrace h number rays bytes
+traced_all h kept number [] all = ([], refl)
+traced_all h kept number (ray ∷ rays) all =
+    let report = each_ray h kept.tree kept.clean ray all.0.moves in
+    let rest = traced_all h kept (number + 1) rays all.1 in
+    (ray_text h number report.0 ++ rest.0, (report.0, rest.0, report.1, rest.1, refl))
 
-kept_after : (i : ℕ) (rays : List Ray) → AllByRecursion IsTraceable rays → AllByRecursion IsTraceable (drop i rays)
-kept_after zero rays kept = kept
-kept_after (suc i) [] kept = kept
-kept_after (suc i) (ray ∷ rays) kept = kept_after i rays kept.1
+all_after : (i : ℕ) (rays : List Ray) → AllByRecursion IsTraceable rays → AllByRecursion IsTraceable (drop i rays)
+all_after zero rays all = all
+all_after (suc i) [] all = all
+all_after (suc i) (ray ∷ rays) all = all_after i rays all.1
 
 drop_get : (rays : List Ray) (i : ℕ) (ray : Ray) → slice_get rays i ≡ Some ray → drop i rays ≡ ray ∷ drop (i + 1) rays
 drop_get rays i ray e = drop_more rays i ray (slice_get_within rays i ray e) ∙ ap (λ x. x ∷ drop (i + 1) rays) (get_or_from_slice_get rays i ray ray e)
@@ -39,33 +55,47 @@ pub record Traced (h : Hierarchy) (rays : List Ray) (i : ℕ) (old new : Option 
 
 -- a trace that goes on with a ray's report
 next : (h : Hierarchy) (rays : List Ray) (i : ℕ) (ray : Ray) → slice_get rays i ≡ Some ray → (rows : List Row) → IsReport (path_along h ray) rows
-    → (rest : List ℕ) → IsTrace h (i + 1 + 1) (drop (i + 1) rays) rest → IsTrace h (i + 1) (drop i rays) (ray_text (world_name h) (i + 1) rows ++ rest)
+    → (rest : List ℕ) → IsTrace h (i + 1 + 1) (drop (i + 1) rays) rest → IsTrace h (i + 1) (drop i rays) (ray_text h (i + 1) rows ++ rest)
 next h rays i ray e rows report rest trace = rw (drop_get rays i ray e) (rows, rest, report, trace, refl)
 
 pub traced_none : (h : Hierarchy) (rays : List Ray) (old : Option (List ℕ)) → Traced h rays 0 old old
 traced_none h rays old = record { written = []; is = sym (with_after-nothing old); goes_on = λ rest trace. trace }
 
-module _ (h : Hierarchy) (rays : List Ray) (i : ℕ) (old mid new : Option (List ℕ)) (so_far : Traced h rays i old mid) (ray : Ray) (at : slice_get rays i ≡ Some ray)
-    (rows : List Row) (report : IsReport (path_along h ray) rows) where
-  pub traced_more : new ≡ with_after mid (ray_text (world_name h) (i + 1) rows) → Traced h rays (i + 1) old new
-  traced_more e = record {
-    written = so_far.written ++ ray_text (world_name h) (i + 1) rows;
-    is = e ∙ ap (λ t. with_after t (ray_text (world_name h) (i + 1) rows)) so_far.is ∙ with_after-twice old so_far.written (ray_text (world_name h) (i + 1) rows);
-    goes_on = λ rest trace.
-        subst (IsTrace h 1 rays) (sym (append_assoc so_far.written (ray_text (world_name h) (i + 1) rows) rest))
-        (so_far.goes_on (ray_text (world_name h) (i + 1) rows ++ rest) (next h rays i ray at rows report rest trace));
-  }
-
-  pub traced_front : IsSolid (volume_at h.volumes h.world).solid → instances h h.world ≡ [] → AllByRecursion IsTraceable rays → AppendsFront mid new (ray_text (world_name h) (i + 1) rows)
+module _ (h : Hierarchy) (rays : List Ray) (i : ℕ) (old mid new : Option (List ℕ)) (so_far : Traced h rays i old mid) (ray : Ray) (at : slice_get rays i ≡ Some ray) where
+  front : IsSealed h → AllByRecursion IsTraceable rays → (rows : List Row) → IsReport (path_along h ray) rows → AppendsFront mid new (ray_text h (i + 1) rows)
       → (bytes : List ℕ) × IsTrace h 1 rays bytes × AppendsFront old new bytes
-  traced_front shape alone kept stopped =
-      let rest = traced_all h shape alone (i + 1 + 1) (drop (i + 1) rays) (kept_after (i + 1) rays kept) in
-      let tail = ray_text (world_name h) (i + 1) rows ++ rest.0 in (
+  front kept all rows report stopped =
+      let rest = traced_all h kept (i + 1 + 1) (drop (i + 1) rays) (all_after (i + 1) rays all) in
+      let tail = ray_text h (i + 1) rows ++ rest.0 in (
         so_far.written ++ tail,
         so_far.goes_on tail (next h rays i ray at rows report rest.0 rest.1),
         front-of_second old new so_far.written tail
-            (front-of_first (with_after old so_far.written) new (ray_text (world_name h) (i + 1) rows) rest.0 (subst (λ t. AppendsFront t new (ray_text (world_name h) (i + 1) rows)) so_far.is stopped)),
+            (front-of_first (with_after old so_far.written) new (ray_text h (i + 1) rows) rest.0 (subst (λ t. AppendsFront t new (ray_text h (i + 1) rows)) so_far.is stopped)),
       )
+
+  -- its head was stopped
+  pub head_stopped : IsSealed h → AllByRecursion IsTraceable rays → IsTraceable ray → AppendsFront mid new (ray_head (i + 1)) → (bytes : List ℕ) × IsTrace h 1 rays bytes × AppendsFront old new bytes
+  head_stopped kept all one stopped =
+      let report = each_ray h kept.tree kept.clean ray one.moves in
+      front kept all report.0 report.1 (front-of_first mid new (ray_head (i + 1)) (flat_map (row_text h) report.0) stopped)
+
+  module _ (rows : List Row) (report : IsReport (path_along h ray) rows) (headed : Option (List ℕ)) (head : headed ≡ with_after mid (ray_head (i + 1))) where
+    -- its rows were stopped
+    pub rows_stopped : IsSealed h → AllByRecursion IsTraceable rays → AppendsFront headed new (flat_map (row_text h) rows) → (bytes : List ℕ) × IsTrace h 1 rays bytes × AppendsFront old new bytes
+    rows_stopped kept all stopped =
+        front kept all rows report (front-of_second mid new (ray_head (i + 1)) (flat_map (row_text h) rows) (subst (λ t. AppendsFront t new (flat_map (row_text h) rows)) head stopped))
+
+    -- both were written
+    pub traced_more : new ≡ with_after headed (flat_map (row_text h) rows) → Traced h rays (i + 1) old new
+    traced_more e =
+        let one : new ≡ with_after mid (ray_text h (i + 1) rows) = e ∙ ap (λ t. with_after t (flat_map (row_text h) rows)) head ∙ with_after-twice mid (ray_head (i + 1)) (flat_map (row_text h) rows) in
+        record {
+          written = so_far.written ++ ray_text h (i + 1) rows;
+          is = one ∙ ap (λ t. with_after t (ray_text h (i + 1) rows)) so_far.is ∙ with_after-twice old so_far.written (ray_text h (i + 1) rows);
+          goes_on = λ rest trace.
+              subst (IsTrace h 1 rays) (sym (append_assoc so_far.written (ray_text h (i + 1) rows) rest))
+              (so_far.goes_on (ray_text h (i + 1) rows ++ rest) (next h rays i ray at rows report rest trace));
+        }
 
 pub traced_whole : (h : Hierarchy) (rays : List Ray) (i : ℕ) (old new : Option (List ℕ)) → Traced h rays i old new → length rays ≤ i
     → (bytes : List ℕ) × IsTrace h 1 rays bytes × (new ≡ with_after old bytes)
@@ -73,8 +103,18 @@ traced_whole h rays i old new so_far done =
     let none : IsTrace h (i + 1) (drop i rays) [] = rw (drop_all i rays done) refl in
     (so_far.written ++ [], so_far.goes_on [] none, so_far.is ∙ ap (with_after old) (sym (append-nil so_far.written)))
 
--- where they aren't none there is a first daughter
-pub some_items : (is : List Instance) (count : ℕ) → count ≡ length is → nat_eq count 0 ≡ false → (first : Instance) × (rest : List Instance) × (is ≡ first ∷ rest)
-some_items (i ∷ is) count e some = (i, is, refl)
-some_items [] zero e some = absurd cc
-some_items [] (suc count) e some = absurd cc
+-- ---- what is written
+
+unrefuted : (h : Hierarchy) → IsSealed h → find refutes (verdicts h) ≡ None
+unrefuted h kept = (clean_where_unrefuted h kept.tree).0 kept.clean
+
+pub reports_written : (input : Input) (h : Hierarchy) (old new : Option (List ℕ)) (result : Result Status IoError) → h ≡ input.tree → IsSealed h → Answers Trace (IsReported h input.rays) old new result → Answers Trace (IsWritten Trace input) old new result
+reports_written input h old new result e kept is =
+    subst (λ o. Answers Trace (IsTraced o input) old new result) (sym (unrefuted input.tree (subst IsSealed e kept)))
+    (subst (λ t. Answers Trace (IsReported t input.rays) old new result) e is)
+
+pub refuted_written : (input : Input) (h : Hierarchy) (verdict : Verdict) (old new : Option (List ℕ)) (result : Result Status IoError) → h ≡ input.tree → find refutes (verdicts input.tree) ≡ Some verdict
+    → Answers Trace (IsRefuted h verdict) old new result → Answers Trace (IsWritten Trace input) old new result
+refuted_written input h verdict old new result e found is =
+    subst (λ o. Answers Trace (IsTraced o input) old new result) (sym found)
+    (subst (λ t. Answers Trace (IsRefuted t verdict) old new result) e is)

@@ -1,16 +1,14 @@
 -- What the program writes, and with which status it ends.
-use Rattle.std.specs.Prelude.{◌≡◌, ℕ, ◌+◌, List, [], ◌∷◌, ◌++◌, Option, None, Some, Result, Ok, Err, if◌then◌else◌}
+use Rattle.std.specs.Prelude.{◌≡◌, ℕ, ◌+◌, List, [], ◌∷◌, ◌++◌, Option, None, Some, Result, Ok, Err, find, if◌then◌else◌}
 use Rattle.std.specs.List.{flat_map, list_any}
 use Rattle.gx_num.specs.declared.ray.Ray.{Ray}
 use Rattle.gx_path.specs.Report.{Row, IsReport}
-use Rattle.gx_table.specs.declared.fault.FaultName.TheVariants.{NotBuilt}
-use Rattle.gx_tree.specs.declared.instance.Instance.{Instance}
-use Rattle.gx_tree.specs.Hierarchy.{Hierarchy, volume_at, instances}
+use Rattle.gx_tree.specs.Hierarchy.{Hierarchy}
 use Rattle.gx_tree.specs.Deepest.{path_along}
 use Rattle.gx_check.specs.declared.selection.Selection.{Selection}
+use Rattle.gx_check.specs.declared.verdict.Verdict.{Verdict}
 use Rattle.gx_check.specs.Verdicts.{verdicts, refutes, chosen, counts_of}
 use Rattle.gx_gather.specs.declared.fault.TextFault.{TextFault}
-use Rattle.gx_gather.specs.Faults.{fault_at}
 use Rattle.gx_link.specs.declared.input.Input.{Input}
 use Rattle.gx_reader.specs.Reading.{reading}
 use Rattle.gx_canon.specs.Canonical.{canonical}
@@ -22,27 +20,32 @@ use Rattle.g4exact.specs.declared.command.Verb.TheVariants.{Trace, Check, List a
 use Rattle.g4exact.specs.declared.outcome.Status.{Status}
 use Rattle.g4exact.specs.declared.outcome.Status.TheVariants.{Clean, Refuted, TextFault as Faulty, WordsFault}
 
-abbrev pub world_name : Hierarchy → List ℕ
-world_name h = (volume_at h.volumes h.world).name
-
--- a ray's head, and its rows, in a world of this name
-abbrev pub ray_text : List ℕ → ℕ → List Row → List ℕ
-ray_text world number rows = ray_head number ++ flat_map (row_text world) rows
+-- a ray's head, and its rows
+abbrev pub ray_text : Hierarchy → ℕ → List Row → List ℕ
+ray_text h number rows = ray_head number ++ flat_map (row_text h) rows
 
 -- for each ray, numbered from here on, its head and the rows of its report
 abbrev pub IsTrace : Hierarchy → ℕ → List Ray → List ℕ → Type 0
 IsTrace h number [] bytes = bytes ≡ []
 IsTrace h number (ray ∷ rays) bytes =
-    (rows : List Row) × (rest : List ℕ) × IsReport (path_along h ray) rows × IsTrace h (number + 1) rays rest × (bytes ≡ ray_text (world_name h) number rows ++ rest)
+    (rows : List Row) × (rest : List ℕ) × IsReport (path_along h ray) rows × IsTrace h (number + 1) rays rest × (bytes ≡ ray_text h number rows ++ rest)
 
 -- the line of a text's fault
 abbrev pub IsFault : TextFault → List ℕ → Status → Type 0
 IsFault fault bytes status = (bytes ≡ fault_line fault) × (status ≡ Faulty)
 
--- a hierarchy whose world has daughters isn't traced yet
-abbrev pub IsTraced : List Instance → Input → List ℕ → Status → Type 0
-IsTraced [] input bytes status = IsTrace input.tree 1 input.rays bytes × (status ≡ Clean)
-IsTraced (daughter ∷ daughters) input bytes status = IsFault (fault_at 0 0 NotBuilt) bytes status
+-- the reports of rays
+abbrev pub IsReported : Hierarchy → List Ray → List ℕ → Status → Type 0
+IsReported h rays bytes status = IsTrace h 1 rays bytes × (status ≡ Clean)
+
+-- a verdict that refutes the hierarchy
+abbrev pub IsRefuted : Hierarchy → Verdict → List ℕ → Status → Type 0
+IsRefuted h verdict bytes status = (bytes ≡ verdict_line h verdict) × (status ≡ Refuted)
+
+-- the first verdict that refutes the hierarchy; or where there is none, the reports
+abbrev pub IsTraced : Option Verdict → Input → List ℕ → Status → Type 0
+IsTraced (Some verdict) input bytes status = IsRefuted input.tree verdict bytes status
+IsTraced None input bytes status = IsReported input.tree input.rays bytes status
 
 -- the lines of the selected verdicts on a hierarchy
 abbrev pub verdict_lines : Selection → Hierarchy → List ℕ
@@ -66,7 +69,7 @@ IsList input bytes status = (bytes ≡ canonical input.tree input.rays) × (stat
 abbrev pub IsWritten : Verb → Input → List ℕ → Status → Type 0
 IsWritten (Check selection) input bytes status = IsCheck selection input.tree bytes status
 IsWritten Listed input bytes status = IsList input bytes status
-IsWritten Trace input bytes status = IsTraced (instances input.tree input.tree.world) input bytes status
+IsWritten Trace input bytes status = IsTraced (find refutes (verdicts input.tree)) input bytes status
 
 -- the line of the text's fault; or where there is none, what the verb writes
 abbrev pub IsAnswer : Verb → Result Input TextFault → List ℕ → Status → Type 0

@@ -43,50 +43,55 @@ pub fn run<S: Source, K: Sink, T: Ledger, Q: Ledger>(
     // After a read that failed there is no other.
     ensures last { result ≡ ReadFault → (before : S) × (S.faults before ≡ S.faults source.old) × S.fails before source.new }
 
-    // So far nothing is counted.
-    ensures tests { tests.new ≡ tests.old }
+    // So far there is nothing to be read of an index.
     ensures reads { reads.new ≡ reads.old }
 {
     match command_from(alloc, words) {
-        Some(command) => execute(alloc, command, source, sink),
+        Some(command) => execute(alloc, command, source, sink, tests, reads),
         None => usage(sink),
     }
 }
 
 // Reads the source where the command does, and writes its output.
-fn execute<S: Source, K: Sink>(
+fn execute<S: Source, K: Sink, T: Ledger, Q: Ledger>(
     alloc: Global,
     command: Command,
     source: &mut S,
     sink: &mut K,
+    tests: &mut Steps<T>,
+    reads: &mut Steps<Q>,
 ) -> Status
     ensures output { (text : List ℕ) × IsTold (S.left source.old) text
         × Ends (Some command) (IsOutput (Some command) text) (K.written sink.old) (K.written sink.new) result }
     ensures read { IsRead (Some command) (S.left source.old) (S.left source.new) result }
     ensures blames { Blames (S.faults source.old) (S.faults source.new) (K.faults sink.old) (K.faults sink.new) result }
     ensures last { result ≡ ReadFault → (before : S) × (S.faults before ≡ S.faults source.old) × S.fails before source.new }
+    ensures reads { reads.new ≡ reads.old }
 {
     match command {
-        Command::Reading { verb, grid } => read(alloc, verb, &grid, source, sink),
+        Command::Reading { verb, grid } => read(alloc, verb, &grid, source, sink, tests, reads),
     }
 }
 
 // Reads the source, and writes what the verb writes of its text.
-fn read<S: Source, K: Sink>(
+fn read<S: Source, K: Sink, T: Ledger, Q: Ledger>(
     alloc: Global,
     verb: Verb,
     grid: &Grid,
     source: &mut S,
     sink: &mut K,
+    tests: &mut Steps<T>,
+    reads: &mut Steps<Q>,
 ) -> Status
     ensures output { (text : List ℕ) × IsTold (S.left source.old) text
         × Ends (Some (Reading verb grid.now)) (IsOutput (Some (Reading verb grid.now)) text) (K.written sink.old) (K.written sink.new) result }
     ensures read { IsRead (Some (Reading verb grid.now)) (S.left source.old) (S.left source.new) result }
     ensures blames { Blames (S.faults source.old) (S.faults source.new) (K.faults sink.old) (K.faults sink.new) result }
     ensures last { result ≡ ReadFault → (before : S) × (S.faults before ≡ S.faults source.old) × S.fails before source.new }
+    ensures reads { reads.new ≡ reads.old }
 {
     match read_input(alloc, grid, source) {
-        Ok(read) => answer(alloc, verb, read, sink),
+        Ok(read) => answer(alloc, verb, read, sink, tests, reads),
         Err(IoError::Failed) => Status::ReadFault,
         Err(IoError::NoMemory) => Status::NoMemory,
     }

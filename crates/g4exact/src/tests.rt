@@ -128,11 +128,6 @@ fn a_fault_of_the_text_is_a_line(rt: HostRuntime) -> Result<(), Fail> {
             ":ROTM r0 0 0 0\n:VOLU a BOX 1 1 1 Air\n:PLACE a 1 a r0 0 0 0",
             "fault 2 2 Cycle\n",
         ),
-        // so far
-        (
-            ":ROTM r0 0 0 0\n:VOLU world BOX 20 20 20 Air\n:VOLU b BOX 5 5 5 Lead\n:PLACE b 1 world r0 -5 0 0\n:RAY -30 0 0 1 0 0",
-            "fault 0 0 NotBuilt\n",
-        ),
     ];
     for (text, output) in texts {
         let case = Case {
@@ -240,6 +235,67 @@ fn a_world_is_traced_by_its_faces(rt: HostRuntime) -> Result<(), Fail> {
 }
 
 const PAIR: &str = ":ROTM r0 0 0 0\n:VOLU world BOX 20 20 20 Air\n:VOLU b BOX 5 5 5 Lead\n";
+
+// Two boxes that touch, along a ray and in the face between them; one that is touched at a corner; replicas; a copied slab in
+// a turned module, on the default grid; and where the geometry isn't clean, the first verdict that says so.
+#[test]
+fn each_ray_has_its_rows(rt: HostRuntime) -> Result<(), Fail> {
+    let alloc = rt.alloc();
+    let touching = joined(
+        alloc,
+        PAIR,
+        ":PLACE b 1 world r0 -5 0 0\n:PLACE b 2 world r0 5 0 0\n:RAY -30 0 0 1 0 0\n:RAY 0 -30 0 0 1 0",
+    )?;
+    let corner = joined(
+        alloc,
+        PAIR,
+        ":PLACE b 1 world r0 0 0 0\n:RAY -5 15 -5 1 -1 1",
+    )?;
+    let deep = joined(
+        alloc,
+        PAIR,
+        ":PLACE b 1 world r0 0 0 0\n:PLACE b 2 world r0 9 0 0\n:RAY -30 0 0 1 0 0",
+    )?;
+    let module =
+        b"// barrel module\n:P thick 2.*cm\n:MATE Lead 82 207.19 11.35\n:ROTM R00 0. 0. 0.\n:ROTM R90 0. 0. 90.*deg\n:VOLU hall BOX 2.*m 2.*m 3.*m Air\n:VOLU module BOX 50.*cm 40.*cm 1.*m Iron\n:VOLU slab BOX $thick/2 40.*cm 1.*m Lead\n:COLOUR slab 1. 0. 0.\n:PLACE module 1 hall R90 0. 0. 50.*cm\n:PLACE_PARAM slab 1 module LINEAR_X R00 5 20.*cm -40.*cm\n:RAY 0 -300.*cm 50.*cm 0 1.*cm 0".as_slice();
+    let all = [
+        (
+            TRACE.as_slice(),
+            touching.as_slice(),
+            Status::Clean,
+            "ray 1\n10 20 world\n20 30 world b@0:1\n30 40 world b@1:2\n40 50 world\nray 2\n10 50 world\n",
+        ),
+        (&TRACE, &corner, Status::Clean, "ray 1\n0 25 world\n"),
+        (
+            &TRACE,
+            b":VOLU world BOX 10 10 10 Air\n:VOLU cell BOX 2 10 10 Lead\n:REPL cell world X 5 4\n:RAY -20 0 0 1 0 0".as_slice(),
+            Status::Clean,
+            "ray 1\n10 14 world cell@0:0\n14 18 world cell@1:1\n18 22 world cell@2:2\n22 26 world cell@3:3\n26 30 world cell@4:4\n",
+        ),
+        (
+            &["trace"],
+            module,
+            Status::Clean,
+            "ray 1\n100 250 hall\n250 259 hall module@0:1\n259 261 hall module@0:1 slab@4:4\n261 279 hall module@0:1\n279 281 hall module@0:1 slab@3:3\n281 299 hall module@0:1\n299 301 hall module@0:1 slab@2:2\n301 319 hall module@0:1\n319 321 hall module@0:1 slab@1:1\n321 339 hall module@0:1\n339 341 hall module@0:1 slab@0:0\n341 350 hall module@0:1\n350 500 hall\n",
+        ),
+        (
+            &TRACE,
+            &deep,
+            Status::Refuted,
+            "overlap world b@0:1 b@1:2 5:-5:5:1 5:5:-5:1 5:-5:-5:1 4:-5:-5:1\n",
+        ),
+    ];
+    for (words, text, status, output) in all {
+        let case = Case {
+            words,
+            text,
+            status,
+            output,
+        };
+        check(&rt, alloc, &case)?;
+    }
+    Ok(())
+}
 
 // Two boxes that touch, and two that overlap; two tetrahedra that no plane of a face parts; a solid turned out of its mother; two
 // bars of which neither has a corner in the other; a world alone.

@@ -1,96 +1,171 @@
-ghost use Rattle.std.specs.Prelude.{◌≡◌, [], ◌∷◌, List, ℕ, Some, true, false};
+ghost use Rattle.std.specs.Prelude.{◌≡◌, ◌≤◌, ℕ, List, length, find, EachIndex, Some};
 ghost use Rattle.gx_io.specs.Bytes.{HasCause, Writes};
-ghost use Rattle.gx_gather.specs.Rays.{IsTraceable};
-ghost use Rattle.gx_tree.specs.declared.instance.Instance.{Instance};
+ghost use Rattle.gx_path.specs.Report.{row_of};
 ghost use Rattle.gx_tree.specs.Hierarchy.{instances};
-ghost use Rattle.gx_tree.specs.Deepest.{path_along};
-ghost use Rattle.gx_path.specs.Report.{Row, IsReport};
-ghost use Rattle.gx_navigator.specs.Rows.{rows_of};
-ghost use Rattle.g4exact.specs.Output.{world_name, ray_text, IsTrace, IsWritten};
+ghost use Rattle.gx_check.specs.Verdicts.{verdicts, refutes};
+ghost use Rattle.gx_print.specs.Range.{is_path};
+ghost use Rattle.gx_print.specs.Texts.{row_text};
 ghost use Rattle.g4exact.specs.declared.command.Verb.TheVariants.{Trace};
+ghost use Rattle.g4exact.specs.Output.{IsTrace, IsReported, IsRefuted, IsWritten};
 ghost use Rattle.g4exact.specs.Ends.{Answers, HasIoCause};
 
-use crate::fault::write_fault;
 use crate::outcome::Status;
-use gx_clip::Span;
-use gx_gather::TextFault;
-use gx_io::{Failed, IoError, Sink};
+use gx_check::Verdict;
+use gx_gather::Rays;
+use gx_io::{Failed, IoError, Lent, Loan, Sink};
 use gx_link::Input;
-use gx_navigator::world_span;
-use gx_num::Ray;
-use gx_print::{print_ray, print_row};
-use gx_table::FaultName;
+use gx_navigator::{Scratch, trace_ray};
+use gx_path::{Row, Rows};
+use gx_print::{print_ray, print_row, print_verdict};
+use gx_sealed::{SealError, Sealed};
+use gx_steps::Steps;
 use gx_tree::Hierarchy;
+use std::alloc::Global;
+use std::marker::{Brand, PhantomData};
+use std::sync::ledger::Ledger;
 
-// Writes a ray's head, and the row of a span.
-#[tactic(auto, using(gx_io::proofs::Joined::joined))]
-fn print_span<K: Sink>(
-    world: &[u8],
-    number: u32,
-    span: &Option<Span>,
-    sink: &mut K,
-) -> Result<(), Failed>
-    ensures bytes { Writes (K.written sink.old) (K.written sink.new) (ray_text world.now number (rows_of span.now)) result }
-    ensures cause { HasCause (K.faults sink.old) (K.faults sink.new) result }
-{
-    print_ray(number, sink)?;
-    match span {
-        Some(span) => print_row(world, span, sink),
-        None => Ok(()),
+// What takes the rows of a report, and writes the line of each.
+struct Lines<'a, K: Sink> {
+    sealed: &'a Sealed,
+    sink: K,
+}
+
+impl<'a, K: Sink> Rows for Lines<'a, K> {
+    type Item = u8;
+
+    ghost held = { λ l. K.written l.sink };
+
+    ghost items = { λ l row. row_text l.sealed.now (row_of row.from row.to row.path) };
+
+    ghost takes = { λ l row. is_path l.sealed.now l.sealed.now.world row.path };
+
+    ghost faults = { λ l. K.faults l.sink };
+
+    fn row(&mut self, row: &Row) -> Result<(), Failed> {
+        print_row(self.sealed, row, &mut self.sink)
     }
 }
 
-// Writes the head and the report of the n-th ray.
-fn print_report<K: Sink>(
-    tree: &Hierarchy,
-    number: u32,
-    ray: &Ray,
-    sink: &mut K,
+// Writes each ray's head and report.
+fn trace_rays<K: Sink, T: Ledger, Q: Ledger>(
+    sealed: &Sealed,
+    rays: &Rays,
+    scratch: &mut Scratch,
+    lines: &mut Lines<'_, K>,
+    tests: &mut Steps<T>,
+    reads: &mut Steps<Q>,
 ) -> Result<(), Failed>
-    requires alone { instances tree.now tree.now.world ≡ [] }
-    requires ray { IsTraceable ray.now }
-    ensures bytes { (rows : List Row) × IsReport (path_along tree.now ray.now) rows × Writes (K.written sink.old) (K.written sink.new) (ray_text (world_name tree.now) number rows) result }
-    ensures cause { HasCause (K.faults sink.old) (K.faults sink.new) result }
+    requires same { lines.old.sealed.now ≡ sealed.now }
+    requires room { EachIndex sealed.now.volumes (λ v. length (instances sealed.now v) ≤ scratch.old) }
+    ensures bytes { (bytes : List ℕ) × IsTrace sealed.now 1 rays.now bytes × Writes (K.written lines.old.sink) (K.written lines.new.sink) bytes result }
+    ensures cause { HasCause (K.faults lines.old.sink) (K.faults lines.new.sink) result }
+    ensures reads { reads.new ≡ reads.old }
 {
-    let world = tree.name(tree.world());
-    print_span(world, number, &world_span(tree, ray), sink)
-}
-
-/// Writes each ray's head and report.
-fn print_reports<K: Sink>(input: &Input, sink: &mut K) -> Result<(), Failed>
-    requires alone { instances input.now.tree input.now.tree.world ≡ [] }
-    ensures bytes { (bytes : List ℕ) × IsTrace input.now.tree 1 input.now.rays bytes × Writes (K.written sink.old) (K.written sink.new) bytes result }
-    ensures cause { HasCause (K.faults sink.old) (K.faults sink.new) result }
-{
-    // What the world's solid keeps is known from here on.
-    let _ = input.tree.solid(input.tree.world());
-    for i in 0..input.rays.count() {
-        print_report(&input.tree, i + 1, &input.rays.ray(i), sink)?;
+    for i in 0..rays.count() {
+        print_ray(i + 1, &mut lines.sink)?;
+        trace_ray(sealed, &rays.ray(i), scratch, lines, tests, reads)?;
     }
     Ok(())
 }
 
-// The world has no daughters.
-fn is_alone(tree: &Hierarchy) -> bool
-    ensures alone { result ≡ true → instances tree.now tree.now.world ≡ [] }
-    ensures daughters { result ≡ false → (i : Instance) × (is : List Instance) × (instances tree.now tree.now.world ≡ i ∷ is) }
+// The same, and gives the sink back.
+fn trace_lent<'a, K: Sink, L: Loan, T: Ledger, Q: Ledger>(
+    sealed: &'a Sealed,
+    rays: &Rays,
+    scratch: &mut Scratch,
+    sink: &'a mut K,
+    tests: &mut Steps<T>,
+    reads: &mut Steps<Q>,
+) -> (Result<(), Failed>, &'a mut K)
+    requires same_reference { sink.ghost_name ≡ L.name }
+    requires written { K.written sink.old ≡ L.written }
+    requires room { EachIndex sealed.now.volumes (λ v. length (instances sealed.now v) ≤ scratch.old) }
+    ensures same_reference { result.1.ghost_name ≡ sink.entry.ghost_name }
+    ensures bytes { (bytes : List ℕ) × IsTrace sealed.now 1 rays.now bytes × Writes (K.written sink.old) (K.written result.1.now) bytes result.0 }
+    ensures cause { HasCause (K.faults sink.old) (K.faults result.1.now) result.0 }
+    ensures reads { reads.new ≡ reads.old }
 {
-    tree.instances(tree.world()) == 0
+    let lent: Lent<'a, K, L> = Lent {
+        sink,
+        loan: PhantomData,
+    };
+    let mut lines = Lines { sealed, sink: lent };
+    let result = trace_rays(sealed, rays, scratch, &mut lines, tests, reads);
+    let Lines {
+        sealed: _,
+        sink: lent,
+    } = lines;
+    let Lent { sink, loan: _ } = lent;
+    (result, sink)
 }
 
-/// Writes the reports of an input's rays. A hierarchy whose world has daughters isn't traced yet.
-pub fn write_trace<K: Sink>(input: &Input, sink: &mut K) -> Result<Status, IoError>
-    ensures output { Answers Trace (IsWritten Trace input.now) (K.written sink.old) (K.written sink.new) result }
+// Writes the reports of rays in a sealed hierarchy.
+fn print_reports<K: Sink, T: Ledger, Q: Ledger>(
+    sealed: &Sealed,
+    rays: &Rays,
+    scratch: &mut Scratch,
+    sink: &mut K,
+    tests: &mut Steps<T>,
+    reads: &mut Steps<Q>,
+) -> Result<(), Failed>
+    requires room { EachIndex sealed.now.volumes (λ v. length (instances sealed.now v) ≤ scratch.old) }
+    ensures bytes { (bytes : List ℕ) × IsTrace sealed.now 1 rays.now bytes × Writes (K.written sink.old) (K.written sink.new) bytes result }
+    ensures cause { HasCause (K.faults sink.old) (K.faults sink.new) result }
+    ensures reads { reads.new ≡ reads.old }
+{
+    let (result, _sink) = trace_lent::<K, Brand, T, Q>(sealed, rays, scratch, sink, tests, reads);
+    result
+}
+
+// Writes the reports of rays in a sealed hierarchy. The memory is taken before the first write.
+fn write_reports<K: Sink, T: Ledger, Q: Ledger>(
+    alloc: Global,
+    sealed: &Sealed,
+    rays: &Rays,
+    sink: &mut K,
+    tests: &mut Steps<T>,
+    reads: &mut Steps<Q>,
+) -> Result<Status, IoError>
+    ensures output { Answers Trace (IsReported sealed.now rays.now) (K.written sink.old) (K.written sink.new) result }
+    ensures cause { HasIoCause (K.faults sink.old) (K.faults sink.new) result }
+    ensures reads { reads.new ≡ reads.old }
+{
+    let mut scratch = Scratch::new(alloc, sealed.most_daughters())?;
+    print_reports(sealed, rays, &mut scratch, sink, tests, reads)?;
+    Ok(Status::Clean)
+}
+
+// Writes the verdict that refutes a hierarchy.
+fn write_refuted<K: Sink>(
+    tree: &Hierarchy,
+    verdict: &Verdict,
+    sink: &mut K,
+) -> Result<Status, IoError>
+    requires { find refutes (verdicts tree.now) ≡ Some verdict.now }
+    ensures output { Answers Trace (IsRefuted tree.now verdict.now) (K.written sink.old) (K.written sink.new) result }
     ensures cause { HasIoCause (K.faults sink.old) (K.faults sink.new) result }
 {
-    if !is_alone(&input.tree) {
-        let fault = TextFault {
-            line: 0,
-            word: 0,
-            name: FaultName::NotBuilt,
-        };
-        return write_fault(&fault, sink);
+    print_verdict(tree, verdict, sink)?;
+    Ok(Status::Refuted)
+}
+
+/// Writes the report of each ray; or where the hierarchy isn't clean, the first verdict that refutes it. All memory is taken
+/// before the first write.
+pub fn write_trace<K: Sink, T: Ledger, Q: Ledger>(
+    alloc: Global,
+    input: Input,
+    sink: &mut K,
+    tests: &mut Steps<T>,
+    reads: &mut Steps<Q>,
+) -> Result<Status, IoError>
+    ensures output { Answers Trace (IsWritten Trace input) (K.written sink.old) (K.written sink.new) result }
+    ensures cause { HasIoCause (K.faults sink.old) (K.faults sink.new) result }
+    ensures reads { reads.new ≡ reads.old }
+{
+    let Input { tree, rays } = input;
+    match Sealed::new(alloc, tree) {
+        Ok(sealed) => write_reports(alloc, &sealed, &rays, sink, tests, reads),
+        Err(SealError::Refuted { tree, verdict }) => write_refuted(&tree, &verdict, sink),
+        Err(SealError::NoMemory) => Err(IoError::NoMemory),
     }
-    print_reports(input, sink)?;
-    Ok(Status::Clean)
 }

@@ -1,2 +1,4 @@
 pub mod InRange
+mod Places
 mod Series
+mod Steps

@@ -1,13 +1,19 @@
--- The verdicts that have a line in a hierarchy.
-use Rattle.std.specs.Prelude.{◌≡◌, ℕ, Bool, IsTrue, All, ◌&&◌, nat_lt, length}
+-- The verdicts and the rows that have a line in a hierarchy.
+use Rattle.std.specs.Prelude.{◌≡◌, ℕ, Bool, true, List, [], ◌∷◌, IsTrue, All, ◌&&◌, nat_lt, length}
 use Rattle.gx_tree.specs.Hierarchy.{Hierarchy, instances}
 use Rattle.gx_check.specs.declared.verdict.Verdict.{Verdict}
 use Rattle.gx_check.specs.declared.verdict.Verdict.TheVariants.{Inner, Outer, Apart, Overlap}
 use Rattle.gx_check.specs.Verdicts.{verdicts}
+use Rattle.gx_print.specs.Texts.{volume_below}
 
 -- a volume has a daughter of this ordinal
 abbrev pub has_daughter : Hierarchy → ℕ → ℕ → Bool
 has_daughter h v k = nat_lt v (length h.volumes) && nat_lt k (length (instances h v))
+
+-- ordinals lead from a volume down by daughters
+abbrev pub is_path : Hierarchy → ℕ → List ℕ → Bool
+is_path h v [] = true
+is_path h v (k ∷ path) = has_daughter h v k && is_path h (volume_below h v k) path
 
 -- the mother and the daughters of a verdict are in the hierarchy
 abbrev pub is_in_range : Hierarchy → Verdict → Bool

@@ -1,5 +1,5 @@
 -- The texts that the program writes. Each is this project's own.
-use Rattle.std.specs.Prelude.{ℕ, List, [], ◌++◌, ◌==◌, if◌then◌else◌, codes, decimal, flat_map, slice_get}
+use Rattle.std.specs.Prelude.{ℕ, List, [], ◌∷◌, ◌++◌, ◌==◌, if◌then◌else◌, codes, decimal, flat_map, slice_get}
 use Rattle.std.specs.Option.{option_map, unwrap_or}
 use Rattle.std.specs.Fmt.{signed_decimal}
 use Rattle.gx_num.specs.declared.vector.V3.{V3}
@@ -33,10 +33,6 @@ digits_of den = if den == 1 then [] else decimal den
 abbrev pub fraction_text : RayParameter → List ℕ
 fraction_text t = decimal t.num ++ slash_of t.den ++ digits_of t.den
 
--- `FROM TO WORLDNAME`
-abbrev pub row_text : List ℕ → Row → List ℕ
-row_text world row = fraction_text row.from ++ codes " " ++ fraction_text row.to ++ codes " " ++ world ++ codes "\n"
-
 -- `fault LINE WORD NAME`
 abbrev pub fault_line : TextFault → List ℕ
 fault_line fault = codes "fault " ++ decimal fault.line ++ codes " " ++ decimal fault.word ++ codes " " ++ text_of fault.name ++ codes "\n"
@@ -57,6 +53,23 @@ instance_text h k i = volume_name h i.volume ++ after (codes "@") (decimal k) ++
 -- the one of this ordinal in a mother
 unfoldable pub daughter_text : Hierarchy → ℕ → ℕ → List ℕ
 daughter_text h mother k = unwrap_or (option_map (instance_text h k) (slice_get (instances h mother) k)) []
+
+-- which volume the daughter of this ordinal is
+abbrev pub volume_below : Hierarchy → ℕ → ℕ → ℕ
+volume_below h mother k = unwrap_or (option_map (λ (i : Instance). i.volume) (slice_get (instances h mother) k)) 0
+
+-- ordinals from a volume down: ` DAUGHTER` for each
+abbrev pub path_text : Hierarchy → ℕ → List ℕ → List ℕ
+path_text h v [] = []
+path_text h v (k ∷ path) = after (codes " ") (daughter_text h v k) ++ path_text h (volume_below h v k) path
+
+-- a place: the world, and each daughter of a path
+unfoldable pub place_text : Hierarchy → List ℕ → List ℕ
+place_text h path = volume_name h h.world ++ path_text h h.world path
+
+-- `FROM TO PLACE`
+abbrev pub row_text : Hierarchy → Row → List ℕ
+row_text h row = fraction_text row.from ++ codes " " ++ fraction_text row.to ++ codes " " ++ place_text h row.path ++ codes "\n"
 
 -- `MOTHER DAUGHTER`
 unfoldable pub in_mother : Hierarchy → ℕ → ℕ → List ℕ

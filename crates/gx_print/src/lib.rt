@@ -1,12 +1,15 @@
 //! The texts that the program writes, each into a sink.
 #![tactic(auto)]
 
+mod copy;
 pub mod laws;
 mod number;
 mod print;
+mod row;
 #[cfg(test)]
 mod tests;
 mod verdict;
 
-pub use print::{print_fault, print_ray, print_row, print_usage};
+pub use print::{print_fault, print_ray, print_usage};
+pub use row::print_row;
 pub use verdict::{print_counts, print_verdict};

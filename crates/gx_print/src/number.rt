@@ -1,6 +1,8 @@
+ghost use Rattle.gx_fraction.specs.Fraction.{parameter_of};
 ghost use Rattle.gx_io.specs.Bytes.{HasCause, Writes};
-ghost use Rattle.gx_print.specs.Texts.{after};
+ghost use Rattle.gx_print.specs.Texts.{after, fraction_text};
 
+use gx_fraction::Frac;
 use gx_io::{Failed, Sink, write_all};
 use itoa::{Buffer, Integer};
 
@@ -24,4 +26,18 @@ pub fn write_after<K: Sink, N: Integer>(
 {
     write_all(sink, before)?;
     write_number(sink, number)
+}
+
+/// Writes a fraction that isn't negative; a denominator of 1 is left out.
+#[tactic(auto, using(gx_io::proofs::Joined::joined))]
+pub fn write_fraction<K: Sink>(sink: &mut K, fraction: &Frac) -> Result<(), Failed>
+    ensures bytes { Writes (K.written sink.old) (K.written sink.new) (fraction_text (parameter_of fraction.now)) result }
+    ensures cause { HasCause (K.faults sink.old) (K.faults sink.new) result }
+{
+    write_number(sink, fraction.num().unsigned_abs())?;
+    if fraction.den() == 1 {
+        return Ok(());
+    }
+    write_all(sink, b"/")?;
+    write_number(sink, fraction.den().unsigned_abs())
 }

@@ -1,13 +1,9 @@
-ghost use Rattle.std.specs.Prelude.{[], ◌++◌, codes, decimal};
+ghost use Rattle.std.specs.Prelude.{◌++◌, codes, decimal};
 ghost use Rattle.gx_io.specs.Bytes.{HasCause, Writes};
-ghost use Rattle.gx_fraction.specs.Fraction.{parameter_of};
-ghost use Rattle.gx_path.specs.Report.{row_of};
 ghost use Rattle.gx_table.specs.Faults.{text_of};
-ghost use Rattle.gx_print.specs.Texts.{usage_line, ray_head, row_text, fault_line, fraction_text};
+ghost use Rattle.gx_print.specs.Texts.{usage_line, ray_head, fault_line};
 
 use crate::number::write_number;
-use gx_clip::Span;
-use gx_fraction::Frac;
 use gx_gather::TextFault;
 use gx_io::{Failed, Sink, write_all};
 use gx_table::fault_text;
@@ -29,18 +25,6 @@ pub fn print_ray<K: Sink>(number: u32, sink: &mut K) -> Result<(), Failed>
     ensures cause { HasCause (K.faults sink.old) (K.faults sink.new) result }
 {
     write_numbered(sink, b"ray ", number)
-}
-
-/// Writes the row of a span in a world of this name.
-#[tactic(auto, using(gx_io::proofs::Joined::joined))]
-pub fn print_row<K: Sink>(world: &[u8], span: &Span, sink: &mut K) -> Result<(), Failed>
-    ensures bytes { Writes (K.written sink.old) (K.written sink.new) (row_text world.now (row_of span.now.from span.now.to [])) result }
-    ensures cause { HasCause (K.faults sink.old) (K.faults sink.new) result }
-{
-    write_span(sink, span)?;
-    write_all(sink, b" ")?;
-    write_all(sink, world)?;
-    write_all(sink, b"\n")
 }
 
 /// Writes the line of a fault of the text.
@@ -84,29 +68,4 @@ fn write_place<K: Sink>(sink: &mut K, head: &[u8], line: u32, word: u32) -> Resu
     write_number(sink, line)?;
     write_all(sink, b" ")?;
     write_number(sink, word)
-}
-
-#[tactic(auto, using(gx_io::proofs::Joined::joined))]
-fn write_span<K: Sink>(sink: &mut K, span: &Span) -> Result<(), Failed>
-    ensures bytes { Writes (K.written sink.old) (K.written sink.new)
-        (fraction_text (parameter_of span.now.from) ++ codes " " ++ fraction_text (parameter_of span.now.to)) result }
-    ensures cause { HasCause (K.faults sink.old) (K.faults sink.new) result }
-{
-    write_fraction(sink, &span.from)?;
-    write_all(sink, b" ")?;
-    write_fraction(sink, &span.to)
-}
-
-// A denominator of 1 is left out.
-#[tactic(auto, using(gx_io::proofs::Joined::joined))]
-fn write_fraction<K: Sink>(sink: &mut K, fraction: &Frac) -> Result<(), Failed>
-    ensures bytes { Writes (K.written sink.old) (K.written sink.new) (fraction_text (parameter_of fraction.now)) result }
-    ensures cause { HasCause (K.faults sink.old) (K.faults sink.new) result }
-{
-    write_number(sink, fraction.num().unsigned_abs())?;
-    if fraction.den() == 1 {
-        return Ok(());
-    }
-    write_all(sink, b"/")?;
-    write_number(sink, fraction.den().unsigned_abs())
 }

@@ -1,12 +1,8 @@
-use crate::{print_fault, print_ray, print_row, print_usage};
-use gx_clip::Span;
-use gx_fraction::Frac;
+use crate::{print_fault, print_ray, print_usage};
 use gx_gather::TextFault;
 use gx_io::{Failed, MemSink};
 use gx_table::FaultName;
 use std::test::Fail;
-
-const WORLD: &[u8] = b"hall";
 
 fn off_grid() -> TextFault {
     TextFault {
@@ -16,31 +12,15 @@ fn off_grid() -> TextFault {
     }
 }
 
-fn whole() -> Span {
-    Span {
-        from: Frac::new(0, 1),
-        to: Frac::new(70, 1),
-    }
-}
-
-fn broken() -> Span {
-    Span {
-        from: Frac::new(1, 2),
-        to: Frac::new(70, 6),
-    }
-}
-
 #[test]
 fn each_line_has_its_bytes(rt: HostRuntime) -> Result<(), Fail> {
     let alloc = rt.alloc();
     let mut sink = MemSink::new(alloc, 200, 3, Vec::new(alloc))?;
     print_ray(65536, &mut sink)?;
-    print_row(WORLD, &whole(), &mut sink)?;
-    print_row(WORLD, &broken(), &mut sink)?;
     print_fault(&off_grid(), &mut sink)?;
     print_usage(&mut sink)?;
     let lines =
-        b"ray 65536\n0 70 hall\n1/2 35/3 hall\nfault 20 4 OffGrid\nusage: g4exact (trace | check [--brief] | list) [--grid=EXPR] | sample N\n";
+        b"ray 65536\nfault 20 4 OffGrid\nusage: g4exact (trace | check [--brief] | list) [--grid=EXPR] | sample N\n";
     assert!(rt; sink.written() == lines.as_slice());
     Ok(())
 }
@@ -51,7 +31,6 @@ fn a_write_that_fails_ends_a_line(rt: HostRuntime) -> Result<(), Fail> {
     let alloc = rt.alloc();
     let mut sink = MemSink::new(alloc, 200, 3, vec![in alloc; 1, 2, 3, 4]?)?;
     assert_eq!(rt; print_ray(1, &mut sink), Err(Failed));
-    assert_eq!(rt; print_row(WORLD, &whole(), &mut sink), Err(Failed));
     assert_eq!(rt; print_fault(&off_grid(), &mut sink), Err(Failed));
     assert_eq!(rt; print_usage(&mut sink), Err(Failed));
     assert!(rt; sink.written().is_empty());

@@ -1,10 +1,10 @@
 ghost use Rattle.std.specs.Prelude.{◌++◌, ◌<◌, IsTrue, codes, decimal, flat_map, length};
-ghost use Rattle.std.specs.Fmt.{signed_decimal};
 ghost use Rattle.gx_io.specs.Bytes.{HasCause, Writes};
 ghost use Rattle.gx_tree.specs.Hierarchy.{instances};
 ghost use Rattle.gx_print.specs.Range.{is_in_range};
 ghost use Rattle.gx_print.specs.Texts.{verdict_line, counts_line, after, daughter_text, in_mother, pair_text, vector_text, plane_text, point_text};
 
+use crate::copy::write_copy;
 use crate::number::write_after;
 use gx_check::{Counts, Verdict};
 use gx_common::Points;
@@ -215,17 +215,7 @@ fn write_daughter<K: Sink>(
     ensures cause { HasCause (K.faults sink.old) (K.faults sink.new) result }
 {
     let instance = tree.instance(mother, ordinal);
-    write_copy(sink, tree.name(instance.volume), ordinal, instance.copy)
-}
-
-#[tactic(auto, using(gx_io::proofs::Joined::joined))]
-fn write_copy<K: Sink>(sink: &mut K, name: &[u8], ordinal: u32, copy: i32) -> Result<(), Failed>
-    ensures bytes { Writes (K.written sink.old) (K.written sink.new) (name.now ++ after (codes "@") (decimal ordinal) ++ after (codes ":") (signed_decimal copy)) result }
-    ensures cause { HasCause (K.faults sink.old) (K.faults sink.new) result }
-{
-    write_all(sink, name)?;
-    write_after(sink, b"@", ordinal)?;
-    write_after(sink, b":", copy)
+    write_copy(sink, tree.name(instance.volume), ordinal, &instance.copy)
 }
 
 #[tactic(auto, unfolding(crate::specs::Texts::vector_text))]
