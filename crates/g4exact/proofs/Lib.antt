@@ -1,6 +1,7 @@
 pub mod Answered
 pub mod Checks
 pub mod Feeding
-mod Paths
+pub mod Paths
 pub mod Runs
+pub mod Tested
 pub mod Traces

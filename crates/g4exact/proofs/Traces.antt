@@ -1,8 +1,10 @@
 -- Traces: each list of rays has one, and it grows ray by ray.
-use Rattle.std.proofs.Common.{◌≡◌, ℕ, Bool, suc, zero, ◌+◌, ◌≤◌, List, [], ◌∷◌, ◌++◌, length, drop, Option, None, Some, Result, refl, sym, ap, ◌∙◌, subst, append_assoc, append-nil}
+use Rattle.std.proofs.Common.{◌≡◌, ℕ, Bool, true, false, suc, zero, ◌+◌, ◌≤◌, List, [], ◌∷◌, ◌++◌, length, drop, Option, None, Some, Result, refl, sym, ap, ◌∙◌, subst, append_assoc, append-nil}
 use Rattle.std.specs.Prelude.{slice_get, find}
-use Rattle.std.specs.List.{flat_map, AllByRecursion}
+use Rattle.std.proofs.Math.Bool.{cond}
+use Rattle.std.specs.List.{flat_map, All, AllByRecursion}
 use Rattle.std.proofs.lemmas.List.{drop_more, drop_all}
+use Rattle.std.proofs.lemmas.List.Elements.{All-head, All-tail}
 use Rattle.std.proofs.lemmas.Option.{slice_get_within, get_or_from_slice_get}
 use Rattle.gx_num.specs.declared.ray.Ray.{Ray}
 use Rattle.gx_io.specs.Bytes.{with_after, AppendsFront}
@@ -19,10 +21,12 @@ use Rattle.gx_print.specs.Texts.{ray_head, row_text}
 use Rattle.gx_io.specs.declared.error.IoError.{IoError}
 use Rattle.gx_check.specs.declared.verdict.Verdict.{Verdict}
 use Rattle.gx_check.specs.Verdicts.{verdicts, refutes}
+use Rattle.gx_check.specs.Laws.{CleanWhereUnrefuted}
 use Rattle.gx_link.specs.declared.input.Input.{Input}
 use Rattle.g4exact.specs.declared.outcome.Status.{Status}
 use Rattle.g4exact.specs.declared.command.Verb.TheVariants.{Trace}
 use Rattle.g4exact.specs.Ends.{Answers}
+use Rattle.g4exact.specs.Tests.{RisesBy, AreTested}
 use Rattle.g4exact.specs.Output.{ray_text, IsTrace, IsReported, IsRefuted, IsTraced, IsWritten}
 
 -- the line of each row, and the rows that have one
@@ -40,12 +44,12 @@ traced_all h kept number (ray ∷ rays) all =
     let rest = traced_all h kept (number + 1) rays all.1 in
     (ray_text h number report.0 ++ rest.0, (report.0, rest.0, report.1, rest.1, refl))
 
-all_after : (i : ℕ) (rays : List Ray) → AllByRecursion IsTraceable rays → AllByRecursion IsTraceable (drop i rays)
+pub all_after : (i : ℕ) (rays : List Ray) → AllByRecursion IsTraceable rays → AllByRecursion IsTraceable (drop i rays)
 all_after zero rays all = all
 all_after (suc i) [] all = all
 all_after (suc i) (ray ∷ rays) all = all_after i rays all.1
 
-drop_get : (rays : List Ray) (i : ℕ) (ray : Ray) → slice_get rays i ≡ Some ray → drop i rays ≡ ray ∷ drop (i + 1) rays
+pub drop_get : (rays : List Ray) (i : ℕ) (ray : Ray) → slice_get rays i ≡ Some ray → drop i rays ≡ ray ∷ drop (i + 1) rays
 drop_get rays i ray e = drop_more rays i ray (slice_get_within rays i ray e) ∙ ap (λ x. x ∷ drop (i + 1) rays) (get_or_from_slice_get rays i ray ray e)
 
 pub record Traced (h : Hierarchy) (rays : List Ray) (i : ℕ) (old new : Option (List ℕ)) : Type 0 where
@@ -105,16 +109,38 @@ traced_whole h rays i old new so_far done =
 
 -- ---- what is written
 
-unrefuted : (h : Hierarchy) → IsSealed h → find refutes (verdicts h) ≡ None
-unrefuted h kept = (clean_where_unrefuted h kept.tree).0 kept.clean
+-- what is found holds what all hold
+pub found_holds : {X : Type 0} (P : X → Type 0) (test : X → Bool) (xs : List X) (x : X) → All P xs → find test xs ≡ Some x → P x
+found_holds P test [] x all e = absurd cc
+found_holds P test (y ∷ ys) x all e = by (test y) e
+  where
+    by : (b : Bool) → cond b (Some y) (find test ys) ≡ Some x → P x
+    by true e = let same : y ≡ x = cc in subst P same (All-head P y ys all)
+    by false e = found_holds P test ys x (All-tail P y ys all) e
 
-pub reports_written : (input : Input) (h : Hierarchy) (old new : Option (List ℕ)) (result : Result Status IoError) → h ≡ input.tree → IsSealed h → Answers Trace (IsReported h input.rays) old new result → Answers Trace (IsWritten Trace input) old new result
-reports_written input h old new result e kept is =
-    subst (λ o. Answers Trace (IsTraced o input) old new result) (sym (unrefuted input.tree (subst IsSealed e kept)))
-    (subst (λ t. Answers Trace (IsReported t input.rays) old new result) e is)
+module _ (input : Input) (h : Hierarchy) (same : h ≡ input.tree) where
+  -- the reports are written where the hierarchy is clean
+  pub reports_written : (old new : Option (List ℕ)) (result : Result Status IoError) → CleanWhereUnrefuted → IsSealed h
+      → Answers Trace (IsReported h input.rays) old new result → Answers Trace (IsWritten Trace input) old new result
+  reports_written old new result law kept is =
+      let none = (law h kept.tree).0 kept.clean in
+      subst (λ (t : Hierarchy). Answers Trace (IsTraced (find refutes (verdicts t)) input) old new result) same
+      (subst (λ o. Answers Trace (IsTraced o input) old new result) (sym none)
+      (subst (λ (t : Hierarchy). Answers Trace (IsReported t input.rays) old new result) same is))
 
-pub refuted_written : (input : Input) (h : Hierarchy) (verdict : Verdict) (old new : Option (List ℕ)) (result : Result Status IoError) → h ≡ input.tree → find refutes (verdicts input.tree) ≡ Some verdict
-    → Answers Trace (IsRefuted h verdict) old new result → Answers Trace (IsWritten Trace input) old new result
-refuted_written input h verdict old new result e found is =
-    subst (λ o. Answers Trace (IsTraced o input) old new result) (sym found)
-    (subst (λ t. Answers Trace (IsRefuted t verdict) old new result) e is)
+  pub reports_tested : (old new : ℕ) (whole : Type 0) → CleanWhereUnrefuted → IsSealed h → RisesBy h input.rays old new whole → AreTested (find refutes (verdicts input.tree)) input old new whole
+  reports_tested old new whole law kept is =
+      let none = (law h kept.tree).0 kept.clean in
+      subst (λ (t : Hierarchy). AreTested (find refutes (verdicts t)) input old new whole) same
+      (subst (λ o. AreTested o input old new whole) (sym none)
+      (subst (λ (t : Hierarchy). RisesBy t input.rays old new whole) same is))
+
+  -- and else the first verdict that refutes it
+  module _ (verdict : Verdict) (found : find refutes (verdicts input.tree) ≡ Some verdict) where
+    pub refuted_written : (old new : Option (List ℕ)) (result : Result Status IoError) → Answers Trace (IsRefuted h verdict) old new result → Answers Trace (IsWritten Trace input) old new result
+    refuted_written old new result is =
+        subst (λ o. Answers Trace (IsTraced o input) old new result) (sym found)
+        (subst (λ (t : Hierarchy). Answers Trace (IsRefuted t verdict) old new result) same is)
+
+    pub refuted_tested : (old new : ℕ) (whole : Type 0) → new ≡ old → AreTested (find refutes (verdicts input.tree)) input old new whole
+    refuted_tested old new whole e = rw found e

@@ -4,6 +4,7 @@ ghost use Rattle.g4exact.specs.Output.{IsOutput};
 ghost use Rattle.g4exact.specs.declared.command.Command.TheVariants.{Reading};
 ghost use Rattle.g4exact.specs.declared.outcome.Status.TheVariants.{ReadFault};
 ghost use Rattle.g4exact.specs.Ends.{Ends, IsTold, IsRead, JudgesWords, NamesWords, Blames, HasFailed, RunsTo};
+ghost use Rattle.g4exact.specs.Tests.{IsTested};
 
 use crate::answer::answer;
 use crate::command::{Command, Verb, command_from};
@@ -26,10 +27,12 @@ pub fn run<S: Source, K: Sink, T: Ledger, Q: Ledger>(
     reads: &mut Steps<Q>,
 ) -> Status
     // What is written is the output for the words and the source's bytes: all of it, a front of it, or nothing, by the status;
-    // where neither count of faults is the next one, all of it, unless memory was wanting.
+    // where neither count of faults is the next one, all of it, unless memory was wanting. Daughters are tested for the reports
+    // alone: as many as there are in the volumes that the rays come to.
     ensures output { (text : List ℕ) × IsTold (S.left source.old) text
         × RunsTo (command_of (map string_bytes words.now)) text (K.written sink.old) (K.written sink.new)
-        (HasFailed (S.faults source.old) (S.faults source.new) (K.faults sink.old) (K.faults sink.new)) result }
+        (HasFailed (S.faults source.old) (S.faults source.new) (K.faults sink.old) (K.faults sink.new)) result
+        × IsTested (command_of (map string_bytes words.now)) text tests.old tests.new result }
 
     // What is read: nothing, or everything up to one byte past the most of a text; at a fault or for want of memory, some of that.
     ensures read { IsRead (command_of (map string_bytes words.now)) (S.left source.old) (S.left source.new) result }
@@ -62,7 +65,8 @@ fn execute<S: Source, K: Sink, T: Ledger, Q: Ledger>(
     reads: &mut Steps<Q>,
 ) -> Status
     ensures output { (text : List ℕ) × IsTold (S.left source.old) text
-        × Ends (Some command) (IsOutput (Some command) text) (K.written sink.old) (K.written sink.new) result }
+        × Ends (Some command) (IsOutput (Some command) text) (K.written sink.old) (K.written sink.new) result
+        × IsTested (Some command) text tests.old tests.new result }
     ensures read { IsRead (Some command) (S.left source.old) (S.left source.new) result }
     ensures blames { Blames (S.faults source.old) (S.faults source.new) (K.faults sink.old) (K.faults sink.new) result }
     ensures last { result ≡ ReadFault → (before : S) × (S.faults before ≡ S.faults source.old) × S.fails before source.new }
@@ -84,7 +88,8 @@ fn read<S: Source, K: Sink, T: Ledger, Q: Ledger>(
     reads: &mut Steps<Q>,
 ) -> Status
     ensures output { (text : List ℕ) × IsTold (S.left source.old) text
-        × Ends (Some (Reading verb grid.now)) (IsOutput (Some (Reading verb grid.now)) text) (K.written sink.old) (K.written sink.new) result }
+        × Ends (Some (Reading verb grid.now)) (IsOutput (Some (Reading verb grid.now)) text) (K.written sink.old) (K.written sink.new) result
+        × IsTested (Some (Reading verb grid.now)) text tests.old tests.new result }
     ensures read { IsRead (Some (Reading verb grid.now)) (S.left source.old) (S.left source.new) result }
     ensures blames { Blames (S.faults source.old) (S.faults source.new) (K.faults sink.old) (K.faults sink.new) result }
     ensures last { result ≡ ReadFault → (before : S) × (S.faults before ≡ S.faults source.old) × S.fails before source.new }

@@ -1,16 +1,20 @@
-ghost use Rattle.std.specs.Prelude.{◌≡◌, ◌≤◌, ℕ, List, length, find, EachIndex, Some};
+ghost use Rattle.std.specs.Prelude.{◌≡◌, ◌≤◌, ℕ, List, length, find, EachIndex, Some, Ok};
 ghost use Rattle.gx_io.specs.Bytes.{HasCause, Writes};
 ghost use Rattle.gx_path.specs.Report.{row_of};
 ghost use Rattle.gx_tree.specs.Hierarchy.{instances};
+ghost use Rattle.gx_sealed.specs.Sealed.{IsSealed};
 ghost use Rattle.gx_check.specs.Verdicts.{verdicts, refutes};
 ghost use Rattle.gx_print.specs.Range.{is_path};
 ghost use Rattle.gx_print.specs.Texts.{row_text};
 ghost use Rattle.g4exact.specs.declared.command.Verb.TheVariants.{Trace};
 ghost use Rattle.g4exact.specs.Output.{IsTrace, IsReported, IsRefuted, IsWritten};
 ghost use Rattle.g4exact.specs.Ends.{Answers, HasIoCause};
+ghost use Rattle.g4exact.specs.Tests.{Rises, RisesBy, AreTested};
+ghost use Rattle.g4exact.specs.declared.outcome.Status.TheVariants.{Clean};
 
 use crate::outcome::Status;
 use gx_check::Verdict;
+use gx_check::laws::clean_where_unrefuted;
 use gx_gather::Rays;
 use gx_io::{Failed, IoError, Lent, Loan, Sink};
 use gx_link::Input;
@@ -56,9 +60,11 @@ fn trace_rays<K: Sink, T: Ledger, Q: Ledger>(
     reads: &mut Steps<Q>,
 ) -> Result<(), Failed>
     requires same { lines.old.sealed.now ≡ sealed.now }
+    requires kept { IsSealed sealed.now }
     requires room { EachIndex sealed.now.volumes (λ v. length (instances sealed.now v) ≤ scratch.old) }
     ensures bytes { (bytes : List ℕ) × IsTrace sealed.now 1 rays.now bytes × Writes (K.written lines.old.sink) (K.written lines.new.sink) bytes result }
     ensures cause { HasCause (K.faults lines.old.sink) (K.faults lines.new.sink) result }
+    ensures tests { Rises sealed.now rays.now tests.old tests.new result }
     ensures reads { reads.new ≡ reads.old }
 {
     for i in 0..rays.count() {
@@ -79,10 +85,12 @@ fn trace_lent<'a, K: Sink, L: Loan, T: Ledger, Q: Ledger>(
 ) -> (Result<(), Failed>, &'a mut K)
     requires same_reference { sink.ghost_name ≡ L.name }
     requires written { K.written sink.old ≡ L.written }
+    requires kept { IsSealed sealed.now }
     requires room { EachIndex sealed.now.volumes (λ v. length (instances sealed.now v) ≤ scratch.old) }
     ensures same_reference { result.1.ghost_name ≡ sink.entry.ghost_name }
     ensures bytes { (bytes : List ℕ) × IsTrace sealed.now 1 rays.now bytes × Writes (K.written sink.old) (K.written result.1.now) bytes result.0 }
     ensures cause { HasCause (K.faults sink.old) (K.faults result.1.now) result.0 }
+    ensures tests { Rises sealed.now rays.now tests.old tests.new result.0 }
     ensures reads { reads.new ≡ reads.old }
 {
     let lent: Lent<'a, K, L> = Lent {
@@ -108,9 +116,11 @@ fn print_reports<K: Sink, T: Ledger, Q: Ledger>(
     tests: &mut Steps<T>,
     reads: &mut Steps<Q>,
 ) -> Result<(), Failed>
+    requires kept { IsSealed sealed.now }
     requires room { EachIndex sealed.now.volumes (λ v. length (instances sealed.now v) ≤ scratch.old) }
     ensures bytes { (bytes : List ℕ) × IsTrace sealed.now 1 rays.now bytes × Writes (K.written sink.old) (K.written sink.new) bytes result }
     ensures cause { HasCause (K.faults sink.old) (K.faults sink.new) result }
+    ensures tests { Rises sealed.now rays.now tests.old tests.new result }
     ensures reads { reads.new ≡ reads.old }
 {
     let (result, _sink) = trace_lent::<K, Brand, T, Q>(sealed, rays, scratch, sink, tests, reads);
@@ -128,6 +138,7 @@ fn write_reports<K: Sink, T: Ledger, Q: Ledger>(
 ) -> Result<Status, IoError>
     ensures output { Answers Trace (IsReported sealed.now rays.now) (K.written sink.old) (K.written sink.new) result }
     ensures cause { HasIoCause (K.faults sink.old) (K.faults sink.new) result }
+    ensures tests { RisesBy sealed.now rays.now tests.old tests.new (result ≡ Ok Clean) }
     ensures reads { reads.new ≡ reads.old }
 {
     let mut scratch = Scratch::new(alloc, sealed.most_daughters())?;
@@ -160,8 +171,11 @@ pub fn write_trace<K: Sink, T: Ledger, Q: Ledger>(
 ) -> Result<Status, IoError>
     ensures output { Answers Trace (IsWritten Trace input) (K.written sink.old) (K.written sink.new) result }
     ensures cause { HasIoCause (K.faults sink.old) (K.faults sink.new) result }
+    ensures tests { AreTested (find refutes (verdicts input.tree)) input tests.old tests.new (result ≡ Ok Clean) }
     ensures reads { reads.new ≡ reads.old }
 {
+    // A clean hierarchy has no verdict that refutes it.
+    clean_where_unrefuted();
     let Input { tree, rays } = input;
     match Sealed::new(alloc, tree) {
         Ok(sealed) => write_reports(alloc, &sealed, &rays, sink, tests, reads),

@@ -1,5 +1,4 @@
+pub mod Counted
 pub mod Found
 pub mod Relabel
-pub mod Reports
 pub mod Spans
-pub mod Worlds

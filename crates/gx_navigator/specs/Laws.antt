@@ -1,12 +1,11 @@
--- The law of reports in a solid.
-use Rattle.std.specs.Prelude.{List}
+-- The law of tests.
+use Rattle.std.specs.Prelude.{ℕ}
 use Rattle.gx_num.specs.declared.ray.Ray.{Ray}
-use Rattle.gx_num.specs.Space.{HalfSpace}
 use Rattle.gx_num.specs.Ray.{HasDirection}
-use Rattle.gx_clip.specs.Clip.{IsBounded}
-use Rattle.gx_path.specs.Report.{Row, IsReport}
-use Rattle.gx_navigator.specs.Rows.{path_within}
+use Rattle.gx_tree.specs.Hierarchy.{Hierarchy}
+use Rattle.gx_tree.specs.Fault.{IsTree}
+use Rattle.gx_navigator.specs.Tests.{IsTestCount}
 
--- each ray that has a direction has a report in each bounded solid
-abbrev pub EachRayHasAReport : Type 0
-EachRayHasAReport = (solid : List HalfSpace) → IsBounded solid → (ray : Ray) → HasDirection ray → (rows : List Row) × IsReport (path_within solid ray) rows
+-- each ray that has a direction has a count of tests
+abbrev pub EachRayHasATestCount : Type 0
+EachRayHasATestCount = (h : Hierarchy) → IsTree h → (ray : Ray) → HasDirection ray → (n : ℕ) × IsTestCount h ray n

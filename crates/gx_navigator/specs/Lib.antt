@@ -1,5 +1,4 @@
 pub mod Laws
 pub mod Paths
-pub mod Rows
 pub mod Tests
 pub mod Tracer

@@ -1,7 +1,7 @@
 //! Laws over the definitions, each the contract of a function that does nothing.
-ghost use Rattle.gx_navigator.specs.Laws.{EachRayHasAReport};
+ghost use Rattle.gx_navigator.specs.Laws.{EachRayHasATestCount};
 
-/// Each ray that has a direction has a report in each bounded solid.
-pub fn each_ray_has_a_report()
-    ensures { EachRayHasAReport }
+/// In a tree each ray that has a direction has a count of tests.
+pub fn each_ray_has_a_test_count()
+    ensures { EachRayHasATestCount }
 {}

@@ -1,4 +1,4 @@
-//! The report of a ray: in a world, and in a sealed hierarchy, row after row.
+//! The report of a ray in a sealed hierarchy, row after row.
 #![tactic(auto)]
 
 pub mod laws;
@@ -6,8 +6,6 @@ pub mod laws;
 mod tests;
 mod trace;
 mod tracer;
-mod world;
 
 pub use gx_walk::Scratch;
 pub use trace::trace_ray;
-pub use world::world_span;

@@ -1,0 +1,44 @@
+-- How many daughters are tested in a run.
+use Rattle.std.specs.Prelude.{◌≡◌, ℕ, ◌+◌, ◌≤◌, List, [], ◌∷◌, Option, None, Some, Result, Ok, OnOk, find}
+use Rattle.gx_num.specs.declared.ray.Ray.{Ray}
+use Rattle.gx_tree.specs.Hierarchy.{Hierarchy}
+use Rattle.gx_check.specs.declared.verdict.Verdict.{Verdict}
+use Rattle.gx_check.specs.Verdicts.{verdicts, refutes}
+use Rattle.gx_gather.specs.declared.fault.TextFault.{TextFault}
+use Rattle.gx_link.specs.declared.input.Input.{Input}
+use Rattle.gx_reader.specs.Reading.{reading}
+use Rattle.gx_navigator.specs.Tests.{IsTestCount}
+use Rattle.g4exact.specs.declared.command.Command.{Command}
+use Rattle.g4exact.specs.declared.command.Command.TheVariants.{Reading}
+use Rattle.g4exact.specs.declared.command.Verb.{Verb}
+use Rattle.g4exact.specs.declared.command.Verb.TheVariants.{Trace}
+use Rattle.g4exact.specs.declared.outcome.Status.{Status}
+use Rattle.g4exact.specs.declared.outcome.Status.TheVariants.{Clean, ReadFault}
+
+-- so many daughters are tested along these rays
+abbrev pub AreTestCounts : Hierarchy → List Ray → ℕ → Type 0
+AreTestCounts h [] n = n ≡ 0
+AreTestCounts h (ray ∷ rays) n = (one : ℕ) × (rest : ℕ) × IsTestCount h ray one × AreTestCounts h rays rest × (n ≡ one + rest)
+
+-- the counter rises by as many where the whole is written, and else by no more
+abbrev pub RisesBy : Hierarchy → List Ray → ℕ → ℕ → Type 0 → Type 0
+RisesBy h rays old new whole = (n : ℕ) × AreTestCounts h rays n × (new ≤ old + n) × (whole → new ≡ old + n)
+
+abbrev pub Rises : {T E : Type 0} → Hierarchy → List Ray → ℕ → ℕ → Result T E → Type 0
+Rises h rays old new result = (n : ℕ) × AreTestCounts h rays n × (new ≤ old + n) × OnOk result (new ≡ old + n)
+
+-- where no verdict refutes the hierarchy; else there is no test
+abbrev pub AreTested : Option Verdict → Input → ℕ → ℕ → Type 0 → Type 0
+AreTested (Some verdict) input old new whole = new ≡ old
+AreTested None input old new whole = RisesBy input.tree input.rays old new whole
+
+-- where rays are traced, and the text has no fault; else there is no test
+abbrev pub AnswersTested : Verb → Result Input TextFault → ℕ → ℕ → Type 0 → Type 0
+AnswersTested Trace (Ok input) old new whole = AreTested (find refutes (verdicts input.tree)) input old new whole
+AnswersTested verb read old new whole = new ≡ old
+
+-- the tests of a command for a text
+abbrev pub IsTested : Option Command → List ℕ → ℕ → ℕ → Status → Type 0
+IsTested (Some (Reading verb grid)) text old new ReadFault = new ≡ old
+IsTested (Some (Reading verb grid)) text old new status = AnswersTested verb (reading grid text) old new (status ≡ Clean)
+IsTested None text old new status = new ≡ old
