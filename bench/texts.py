@@ -1,5 +1,5 @@
 """Writes the texts of the measure into a folder: `rays` in a world of each kind, `comments`, `numbers` of four lengths, and
-`fill-TAG` up to a limit of lines or of bytes for each tag."""
+`fill-TAG` up to a limit of lines or of bytes for each tag; scenes that are checked, and scenes that are traced."""
 import random
 import sys
 
@@ -98,3 +98,39 @@ scene("rods", ":VOLU rod EXTRUDED 8 10 5 5 10 -5 10 -10 5 -10 -5 -5 -10 5 -10 10
 scene("copies", ":VOLU box BOX 5 5 5 Lead", *(f":VOLU mother{i} BOX 1000 1000 50 Air" for i in range(16)),
       *(f":PLACE mother{i} 1 world none 0 0 {100 * i}" for i in range(16)),
       *(f":PLACE_PARAM box 1 mother{i} SQUARE_XY none 63 64 10 10 -320 -320" for i in range(16)))
+
+
+def traced(kind, across, up, shapes):
+    """Daughters on a lattice, shaken and turned so that none meet, and 20,000 rays through it from outside."""
+    random.seed(2)
+    turns = [" ".join(str(90 * random.randint(0, 3)) for _ in range(3)) for _ in range(12)]
+    low, high = -200, 400 * max(across, up) + 200
+    lines = [f":ROTM turn{i} {turn}" for i, turn in enumerate(turns)]
+    lines += [f":VOLU world EXTRUDED 4 {low} {low} {high} {low} {high} {high} {low} {high} 2 {low} 0 0 1 {high} 0 0 1 Air"]
+    lines += [f":VOLU {kind}{i} {shape} Lead" for i, shape in enumerate(shapes)]
+    for i in range(across * across * up):
+        at = [400 * (i % across), 400 * (i // across % across), 400 * (i // across // across)]
+        x, y, z = (c + random.randint(-40, 40) for c in at)
+        lines.append(f":PLACE {kind}{i % len(shapes)} {i} world turn{random.randrange(12)} {x} {y} {z}")
+    for _ in range(20000):
+        o, to = ([random.randint(low, high) for _ in range(3)] for _ in range(2))
+        side = random.randrange(3)
+        o[side], to[side] = low - 100, high + 100
+        lines.append(":RAY " + " ".join(map(str, o)) + " " + " ".join(str(b - a) for a, b in zip(o, to)))
+    with open(f"{folder}/trace-{kind}-{across * across * up}", "w") as text:
+        text.write("".join(line + "\n" for line in lines))
+
+
+def sized(least, most):
+    return random.randint(least, most)
+
+
+random.seed(3)
+boxes = [f"BOX {sized(40, 150)} {sized(40, 150)} {sized(40, 150)}" for _ in range(20)]
+tetrahedra = ["TET " + " ".join(str(s * sized(80, 150)) for s in (1, 1, 1, 1, -1, -1, -1, 1, -1, -1, -1, 1)) for _ in range(20)]
+hulls = [f"EXTRUDED 8 100 40 40 100 -40 100 -100 40 -100 -40 -40 -100 40 -100 100 -40 2 "
+         f"-{sized(60, 150)} 0 0 {sized(2, 5)}/4 {sized(60, 150)} 0 0 {sized(2, 5)}/4" for _ in range(20)]
+for across, up in ((10, 10), (20, 10)):
+    traced("box", across, up, boxes)
+    traced("tet", across, up, tetrahedra)
+    traced("hull", across, up, hulls)

@@ -1,4 +1,5 @@
 pub mod Counted
 pub mod Found
+mod Least
 pub mod Relabel
 pub mod Spans
