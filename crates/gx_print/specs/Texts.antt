@@ -13,6 +13,7 @@ use Rattle.gx_tree.specs.declared.instance.Instance.{Instance}
 use Rattle.gx_tree.specs.Hierarchy.{Hierarchy, volume_at, instances}
 use Rattle.gx_check.specs.declared.counts.Counts.{Counts}
 use Rattle.gx_check.specs.declared.verdict.Verdict.{Verdict}
+use Rattle.gx_print.specs.declared.summary.Summary.{Summary}
 use Rattle.gx_check.specs.declared.verdict.Verdict.TheVariants.{Inner, Outer, Apart, Overlap}
 
 abbrev pub usage_line : List ℕ
@@ -101,3 +102,11 @@ verdict_line h (Overlap mother first second points) = codes "overlap " ++ pair_t
 -- `checked D daughters P pairs R refuted`
 abbrev pub counts_line : Counts → List ℕ
 counts_line c = after (codes "checked ") (decimal c.daughters) ++ after (codes " daughters ") (decimal c.pairs) ++ after (codes " pairs ") (decimal c.refuted) ++ codes " refuted\n"
+
+-- what a sample's numbers are: `sample N instances I rays R rows W`
+unfoldable pub summary_text : Summary → List ℕ
+summary_text s = after (codes "sample ") (decimal s.number) ++ after (codes " instances ") (decimal s.instances) ++ after (codes " rays ") (decimal s.rays) ++ after (codes " rows ") (decimal s.rows)
+
+-- its line
+abbrev pub summary_line : Summary → List ℕ
+summary_line s = summary_text s ++ codes "\n"

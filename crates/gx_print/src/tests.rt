@@ -1,4 +1,4 @@
-use crate::{print_fault, print_ray, print_usage};
+use crate::{Summary, print_fault, print_ray, print_summary, print_usage};
 use gx_gather::TextFault;
 use gx_io::{Failed, MemSink};
 use gx_table::FaultName;
@@ -19,8 +19,15 @@ fn each_line_has_its_bytes(rt: HostRuntime) -> Result<(), Fail> {
     print_ray(65536, &mut sink)?;
     print_fault(&off_grid(), &mut sink)?;
     print_usage(&mut sink)?;
+    let summary = Summary {
+        number: 2,
+        instances: 5,
+        rays: 3,
+        rows: 11,
+    };
+    print_summary(&summary, &mut sink)?;
     let lines =
-        b"ray 65536\nfault 20 4 OffGrid\nusage: g4exact (trace | check [--brief] | list) [--grid=EXPR] | sample N\n";
+        b"ray 65536\nfault 20 4 OffGrid\nusage: g4exact (trace | check [--brief] | list) [--grid=EXPR] | sample N\nsample 2 instances 5 rays 3 rows 11\n";
     assert!(rt; sink.written() == lines.as_slice());
     Ok(())
 }
