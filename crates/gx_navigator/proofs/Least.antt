@@ -31,11 +31,13 @@ without x (y ∷ ys) (inl e) = ys
 without x (y ∷ ys) (inr one) = y ∷ without x ys one
 
 length-without : {X : Type 0} (x : X) (xs : List X) (one : IsOne x xs) → suc (length (without x xs one)) ≡ length xs
+unfolding without
 length-without x [] one = absurd one
 length-without x (y ∷ ys) (inl e) = refl
 length-without x (y ∷ ys) (inr one) = ap suc (length-without x ys one)
 
 still_one : {X : Type 0} (x y : X) (xs : List X) (one : IsOne x xs) → x ≢ y → IsOne y xs → IsOne y (without x xs one)
+unfolding without
 still_one x y [] one differ is = absurd one
 still_one x y (z ∷ zs) (inl e) differ (inl f) = absurd (differ (e ∙ sym f))
 still_one x y (z ∷ zs) (inl e) differ (inr is) = is
@@ -113,64 +115,68 @@ module _ {D : Type 0} (hits : D → List (Hit D)) where
       by (inl e) = inl e
       by (inr is) = inr (one-append p.path more paths is)
 
+  known_walk : (n : ℕ) → ((from to : RayParameter) (d : D) → AllByRecursion (IsKnown (met_paths n d)) (pieces_of hits n from to d)) → (to s : RayParameter) (m : Bool) (hs : List (Hit D))
+      → AllByRecursion (IsKnown (flat_map (below n) hs)) (walk (λ h. pieces_of hits n h.from h.to h.daughter) s m to hs)
+  known_walk n known to s m [] = known_gap [] s m to false
+  known_walk n known to s m (h ∷ hs) =
+      let paths = below n h ++ flat_map (below n) hs in
+      let inner = map (under h.ordinal) (pieces_of hits n h.from h.to h.daughter) in
+      let rest = walk (λ h. pieces_of hits n h.from h.to h.daughter) h.to true to hs in
+      all-append (IsKnown paths) (gap s m h.from true) (inner ++ rest) (known_gap paths s m h.from true)
+      (all-append (IsKnown paths) inner rest
+      (known_under n h (flat_map (below n) hs) (pieces_of hits n h.from h.to h.daughter) (known h.from h.to h.daughter))
+      (known_more (below n h) (flat_map (below n) hs) rest (known_walk n known to h.to true hs)))
+
   known_pieces : (n : ℕ) (from to : RayParameter) (d : D) → AllByRecursion (IsKnown (met_paths n d)) (pieces_of hits n from to d)
+  unfolding met_paths
   known_pieces zero from to d = known_gap [] from false to false
-  known_pieces (suc n) from to d = along from false (hits d)
-    where
-      along : (s : RayParameter) (m : Bool) (hs : List (Hit D)) → AllByRecursion (IsKnown (flat_map (below n) hs)) (walk (λ h. pieces_of hits n h.from h.to h.daughter) s m to hs)
-      along s m [] = known_gap [] s m to false
-      along s m (h ∷ hs) =
-          let paths = below n h ++ flat_map (below n) hs in
-          let inner = map (under h.ordinal) (pieces_of hits n h.from h.to h.daughter) in
-          let rest = walk (λ h. pieces_of hits n h.from h.to h.daughter) h.to true to hs in
-          all-append (IsKnown paths) (gap s m h.from true) (inner ++ rest) (known_gap paths s m h.from true)
-          (all-append (IsKnown paths) inner rest
-          (known_under n h (flat_map (below n) hs) (pieces_of hits n h.from h.to h.daughter) (known_pieces n h.from h.to h.daughter))
-          (known_more (below n h) (flat_map (below n) hs) rest (along h.to true hs)))
+  known_pieces (suc n) from to d = known_walk n (known_pieces n) to from false (hits d)
 
   -- they are no more than the tests
   module _ (count : D → ℕ) (few : (d : D) → length (hits d) ≤ count d) where
+    no_more_below : (n : ℕ) → ((d : D) → length (met_paths n d) ≤ cost_of count hits n d) → (hs : List (Hit D))
+        → length (flat_map (below n) hs) ≤ length hs + sum_by (λ h. cost_of count hits n h.daughter) hs
+    no_more_below n no_more [] = omega arith
+    no_more_below n no_more (h ∷ hs) =
+        let one = no_more h.daughter in
+        let rest = no_more_below n no_more hs in
+        let parts = length-append (map (λ path. h.ordinal ∷ path) (met_paths n h.daughter)) (flat_map (below n) hs) in
+        let same = length-map (λ (path : List ℕ). h.ordinal ∷ path) (met_paths n h.daughter) in
+        let sum = sum_by-cons (λ (h : Hit D). cost_of count hits n h.daughter) h hs in
+        omega (arith, one, rest, parts, same, sum)
+
     no_more_met : (n : ℕ) (d : D) → length (met_paths n d) ≤ cost_of count hits n d
+    unfolding met_paths
     no_more_met zero d = omega arith
-    no_more_met (suc n) d = omega (arith, few d, along (hits d))
-      where
-        along : (hs : List (Hit D)) → length (flat_map (below n) hs) ≤ length hs + sum_by (λ h. cost_of count hits n h.daughter) hs
-        along [] = omega arith
-        along (h ∷ hs) =
-            let tail = flat_map (below n) hs in
-            let one = no_more_met n h.daughter in
-            let rest = along hs in
-            let parts = length-append (map (λ path. h.ordinal ∷ path) (met_paths n h.daughter)) tail in
-            let same = length-map (λ (path : List ℕ). h.ordinal ∷ path) (met_paths n h.daughter) in
-            let sum = sum_by-cons (λ (h : Hit D). cost_of count hits n h.daughter) h hs in
-            omega (arith, one, rest, parts, same, sum)
+    no_more_met (suc n) d = omega (arith, few d, no_more_below n (no_more_met n) (hits d))
 
   row_known : (paths : List (List ℕ)) (pieces : List Piece) (path : List ℕ) → AllByRecursion (IsKnown paths) pieces → path ≢ [] → AnyByRecursion (λ row. path ≡ row.path) (open_rows pieces) → IsOne path paths
   row_known paths [] path known some is = absurd is
-  row_known paths (p ∷ ps) path (one, known) some is = by (is_below p.from p.to) is
+  row_known paths (p ∷ ps) path (one, known) some is = by (row_known paths ps path known some) (is_below p.from p.to) is
     where
       here : IsKnown paths p → path ≡ p.path → IsOne path paths
       here (inl e) f = absurd (some (f ∙ e))
       here (inr one) f = subst (λ l. IsOne l paths) (sym f) one
 
-      by : (b : Bool) → AnyByRecursion (λ row. path ≡ row.path) (cond b (record { from = p.from; to = p.to; path = p.path } ∷ open_rows ps) (open_rows ps)) → IsOne path paths
-      by true (inl e) = here one e
-      by true (inr is) = row_known paths ps path known some is
-      by false is = row_known paths ps path known some is
+      by : (AnyByRecursion (λ row. path ≡ row.path) (open_rows ps) → IsOne path paths)
+          → (b : Bool) → AnyByRecursion (λ row. path ≡ row.path) (cond b (record { from = p.from; to = p.to; path = p.path } ∷ open_rows ps) (open_rows ps)) → IsOne path paths
+      by later true (inl e) = here one e
+      by later true (inr is) = later is
+      by later false is = later is
 
 -- ---- in a hierarchy
 
 length-insert_hit : {D : Type 0} (h : Hit D) (hits : List (Hit D)) → length (insert_hit h hits) ≡ suc (length hits)
 length-insert_hit h [] = refl
-length-insert_hit h (g ∷ hits) = by (is_below h.from g.from)
+length-insert_hit h (g ∷ hits) = by (length-insert_hit h hits) (is_below h.from g.from)
   where
-    by : (b : Bool) → length (cond b (h ∷ g ∷ hits) (g ∷ insert_hit h hits)) ≡ suc (suc (length hits))
-    by true = refl
-    by false = ap suc (length-insert_hit h hits)
+    by : length (insert_hit h hits) ≡ suc (length hits) → (b : Bool) → length (cond b (h ∷ g ∷ hits) (g ∷ insert_hit h hits)) ≡ suc (suc (length hits))
+    by e true = refl
+    by e false = ap suc e
 
 length-sorted : {D : Type 0} (found : ℕ → Option (Hit D)) (n : ℕ) → length (sorted found n) ≤ n
-length-sorted found zero = omega arith
-length-sorted found (suc n) = by (found n) (length-sorted found n)
+length-sorted {D} found zero = omega arith
+length-sorted {D} found (suc n) = by (found n) (length-sorted found n)
   where
     by : (o : Option (Hit D)) → length (sorted found n) ≤ n → length (insert_found o (sorted found n)) ≤ suc n
     by None few = omega (arith, few)
