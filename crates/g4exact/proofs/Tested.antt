@@ -11,7 +11,7 @@ use Rattle.gx_check.specs.declared.verdict.Verdict.{Verdict}
 use Rattle.gx_link.specs.declared.input.Input.{Input}
 use Rattle.gx_navigator.specs.Tests.{IsTestCount}
 use Rattle.gx_navigator.proofs.Counted.{tested}
-use Rattle.g4exact.specs.Tests.{AreTestCounts, RisesBy}
+use Rattle.g4exact.specs.Tests.{AreTestCounts, RisesBy, AreTested}
 use Rattle.g4exact.proofs.Traces.{all_after, drop_get}
 
 -- each of the rays has a count
@@ -29,7 +29,7 @@ pub record Tested (h : Hierarchy) (rays : List Ray) (i : ℕ) (old new : ℕ) : 
   pub goes_on : (rest : ℕ) → AreTestCounts h (drop i rays) rest → AreTestCounts h rays (count + rest)
 
 pub tested_none : (h : Hierarchy) (rays : List Ray) (old : ℕ) → Tested h rays 0 old old
-tested_none h rays old = record { count = 0; is = omega arith; goes_on = λ rest counts. counts }
+tested_none h rays old = record { count = 0; is = omega arith; goes_on = λ rest counts. let same : rest ≡ 0 + rest = omega arith in subst (AreTestCounts h rays) same counts }
 
 module _ (h : Hierarchy) (rays : List Ray) (i : ℕ) (old mid new : ℕ) (so_far : Tested h rays i old mid) where
   module _ (ray : Ray) (at : slice_get rays i ≡ Some ray) (one : ℕ) (counted : IsTestCount h ray one) where
@@ -65,3 +65,7 @@ pub untested : (h : Hierarchy) → IsTree h → (rays : List Ray) → AllByRecur
 untested h tree rays all old whole never =
     let n = tested_all h tree rays all in
     (n.0, n.1, omega arith, λ all. absurd (never all))
+
+pub none_tested : (input : Input) → IsTree input.tree → AllByRecursion IsTraceable input.rays → (refuted : Option Verdict) (old : ℕ) (whole : Type 0) → (whole → ⊥) → AreTested refuted input old old whole
+none_tested input tree all (Some verdict) old whole never = refl
+none_tested input tree all None old whole never = untested input.tree tree input.rays all old whole never

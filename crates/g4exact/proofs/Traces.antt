@@ -15,6 +15,7 @@ use Rattle.gx_gather.specs.Rays.{IsTraceable}
 use Rattle.gx_tree.specs.Hierarchy.{Hierarchy}
 use Rattle.gx_tree.specs.Deepest.{path_along}
 use Rattle.gx_nest.proofs.Found.{each_ray}
+use Rattle.gx_walk.specs.Hits.{items_of}
 use Rattle.gx_sealed.specs.Sealed.{IsSealed}
 use Rattle.gx_print.specs.Range.{is_path}
 use Rattle.gx_print.specs.Texts.{ray_head, row_text}
@@ -112,11 +113,19 @@ traced_whole h rays i old new so_far done =
 -- what is found holds what all hold
 pub found_holds : {X : Type 0} (P : X → Type 0) (test : X → Bool) (xs : List X) (x : X) → All P xs → find test xs ≡ Some x → P x
 found_holds P test [] x all e = absurd cc
-found_holds P test (y ∷ ys) x all e = by (test y) e
+found_holds P test (y ∷ ys) x all e = by (found_holds P test ys x (All-tail P y ys all)) (test y) e
   where
-    by : (b : Bool) → cond b (Some y) (find test ys) ≡ Some x → P x
-    by true e = let same : y ≡ x = cc in subst P same (All-head P y ys all)
-    by false e = found_holds P test ys x (All-tail P y ys all) e
+    by : (find test ys ≡ Some x → P x) → (b : Bool) → cond b (Some y) (find test ys) ≡ Some x → P x
+    by later true e = let same : y ≡ x = cc in subst P same (All-head P y ys all)
+    by later false e = later e
+
+-- a report's rows, as they are given, have its lines
+items_of_report : (h : Hierarchy) (rows : List Row) → items_of (texts_in h) rows ≡ flat_map (row_text h) rows
+items_of_report h [] = refl
+items_of_report h (row ∷ rows) = ap (λ rest. row_text h row ++ rest) (items_of_report h rows)
+
+pub lines_of_report : (h : Hierarchy) (texts : Given → List ℕ) (rows : List Row) → texts ≡ texts_in h → items_of texts rows ≡ flat_map (row_text h) rows
+lines_of_report h texts rows e = ap (λ f. items_of f rows) e ∙ items_of_report h rows
 
 module _ (input : Input) (h : Hierarchy) (same : h ≡ input.tree) where
   -- the reports are written where the hierarchy is clean

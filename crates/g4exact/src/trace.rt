@@ -1,9 +1,10 @@
-ghost use Rattle.std.specs.Prelude.{◌≡◌, ◌≤◌, ℕ, List, length, find, EachIndex, Some, Ok};
+ghost use Rattle.std.specs.Prelude.{◌≡◌, ◌≤◌, ℕ, List, length, find, All, EachIndex, Some, Ok};
 ghost use Rattle.gx_io.specs.Bytes.{HasCause, Writes};
 ghost use Rattle.gx_path.specs.Report.{row_of};
 ghost use Rattle.gx_tree.specs.Hierarchy.{instances};
 ghost use Rattle.gx_sealed.specs.Sealed.{IsSealed};
 ghost use Rattle.gx_check.specs.Verdicts.{verdicts, refutes};
+ghost use Rattle.gx_gather.specs.Rays.{IsTraceable};
 ghost use Rattle.gx_print.specs.Range.{is_path};
 ghost use Rattle.gx_print.specs.Texts.{row_text};
 ghost use Rattle.g4exact.specs.declared.command.Verb.TheVariants.{Trace};
@@ -68,8 +69,9 @@ fn trace_rays<K: Sink, T: Ledger, Q: Ledger>(
     ensures reads { reads.new ≡ reads.old }
 {
     for i in 0..rays.count() {
+        let ray = rays.ray(i);
         print_ray(i + 1, &mut lines.sink)?;
-        trace_ray(sealed, &rays.ray(i), scratch, lines, tests, reads)?;
+        trace_ray(sealed, &ray, scratch, lines, tests, reads)?;
     }
     Ok(())
 }
@@ -136,6 +138,7 @@ fn write_reports<K: Sink, T: Ledger, Q: Ledger>(
     tests: &mut Steps<T>,
     reads: &mut Steps<Q>,
 ) -> Result<Status, IoError>
+    requires { All IsTraceable rays.now }
     ensures output { Answers Trace (IsReported sealed.now rays.now) (K.written sink.old) (K.written sink.new) result }
     ensures cause { HasIoCause (K.faults sink.old) (K.faults sink.new) result }
     ensures tests { RisesBy sealed.now rays.now tests.old tests.new (result ≡ Ok Clean) }
@@ -177,6 +180,9 @@ pub fn write_trace<K: Sink, T: Ledger, Q: Ledger>(
     // A clean hierarchy has no verdict that refutes it.
     clean_where_unrefuted();
     let Input { tree, rays } = input;
+    // What each hierarchy and all rays keep is known from here on.
+    let _ = tree.world();
+    let _ = rays.count();
     match Sealed::new(alloc, tree) {
         Ok(sealed) => write_reports(alloc, &sealed, &rays, sink, tests, reads),
         Err(SealError::Refuted { tree, verdict }) => write_refuted(&tree, &verdict, sink),

@@ -1,8 +1,13 @@
-use Rattle.std.proofs.Common.{arith, ap, sym, subst, ◌∙◌, refl, IsTrue}
+use Rattle.std.proofs.Common.{arith, ap, sym, subst, ◌≤◌, ◌≡◌, ◌∙◌, refl, length, IsTrue}
+use Rattle.std.specs.Prelude.{EachIndex}
+use Rattle.std.specs.List.{flat_map}
 use Rattle.std.proofs.lemmas.Result.{err_from_is_err_and}
 use Rattle.std.proofs.lemmas.List.Elements.{recursion_from_All}
+use Rattle.gx_io.specs.Bytes.{with_after, AppendsFront}
+use Rattle.gx_tree.specs.Hierarchy.{instances}
 use Rattle.gx_gather.specs.Rays.{IsTraceable}
-use Rattle.g4exact.proofs.Traces.{texts_in, places_in, traced_none, head_stopped, rows_stopped, traced_more, traced_whole}
+use Rattle.gx_print.specs.Texts.{row_text}
+use Rattle.g4exact.proofs.Traces.{texts_in, places_in, lines_of_report, traced_none, head_stopped, rows_stopped, traced_more, traced_whole}
 use Rattle.g4exact.proofs.Tested.{tested_none, tested_more, tested_before, tested_within, tested_whole}
 use Rattle.g4exact.proofs.Paths.{leads_is_path}
 use Rattle.g4exact.proofs.trace.trace_rays.Goals as goal
@@ -23,3 +28,73 @@ trace_ray-requires-clause-takes g c = λ row v leads.
     let h = c.args.sealed.now in
     let tree = c.requires.kept.tree in
     subst (λ p. IsTrue (p row)) (sym c.loop-i.invariant.takes) (leads_is_path h tree h.world row.path v tree.world leads)
+
+pub returns-in_err-print_ray-clause-bytes : goal.returns-in_err-print_ray-clause-bytes
+returns-in_err-print_ray-clause-bytes g c =
+    let h = c.args.sealed.now in
+    let rays = c.args.rays.now in
+    let kept = recursion_from_All IsTraceable rays c.count-i-end.ensures.kept in
+    let p = err_from_is_err_and c.from_residual.result c.from_residual.ensures.1 in
+    let front = head_stopped h rays c.loop-i.i _ _ _ c.loop-i.invariant.traced c.ray-ray.result c.ray-ray.ensures.ray c.requires.kept kept c.ray-ray.ensures.kept c.in_err-print_ray.ensures.bytes.front in
+    rw p.1 (front.0, front.1, record { all = tt; front = front.2 })
+
+pub returns-in_err-print_ray-clause-tests : goal.returns-in_err-print_ray-clause-tests
+returns-in_err-print_ray-clause-tests g c =
+    let h = c.args.sealed.now in
+    let rays = c.args.rays.now in
+    let kept = recursion_from_All IsTraceable rays c.count-i-end.ensures.kept in
+    let p = err_from_is_err_and c.from_residual.result c.from_residual.ensures.1 in
+    let few = tested_before h rays c.loop-i.i _ _ _ c.loop-i.invariant.tested c.requires.kept.tree kept refl in
+    rw p.1 (few.0, few.1, few.2, tt)
+
+pub returns-in_err-trace_ray-clause-bytes : goal.returns-in_err-trace_ray-clause-bytes
+returns-in_err-trace_ray-clause-bytes g c =
+    let h = c.args.sealed.now in
+    let rays = c.args.rays.now in
+    let kept = recursion_from_All IsTraceable rays c.count-i-end.ensures.kept in
+    let p = err_from_is_err_and c.from_residual-in_err-trace_ray.result c.from_residual-in_err-trace_ray.ensures.1 in
+    let report = c.in_err-trace_ray.ensures.report in
+    let headed = g.K.Sink.written c.print_ray.new.sink in
+    let new = g.K.Sink.written c.trace_ray.new.rows.sink in
+    let rows = subst (AppendsFront headed new) (lines_of_report h (texts_in c.loop-i.lines.sealed.now) report.0 c.loop-i.invariant.items) report.2.front in
+    let front = rows_stopped h rays c.loop-i.i _ _ _ c.loop-i.invariant.traced c.ray-ray.result c.ray-ray.ensures.ray report.0 report.1 headed c.in_ok-print_ray.ensures.bytes.all c.requires.kept kept rows in
+    rw p.1 (front.0, front.1, record { all = tt; front = front.2 })
+
+pub returns-in_err-trace_ray-clause-tests : goal.returns-in_err-trace_ray-clause-tests
+returns-in_err-trace_ray-clause-tests g c =
+    let h = c.args.sealed.now in
+    let rays = c.args.rays.now in
+    let kept = recursion_from_All IsTraceable rays c.count-i-end.ensures.kept in
+    let p = err_from_is_err_and c.from_residual-in_err-trace_ray.result c.from_residual-in_err-trace_ray.ensures.1 in
+    let tests = c.in_err-trace_ray.ensures.tests in
+    let few = tested_within h rays c.loop-i.i _ _ _ c.loop-i.invariant.tested c.ray-ray.result c.ray-ray.ensures.ray tests.0 tests.1 c.requires.kept.tree kept tests.2 in
+    rw p.1 (few.0, few.1, few.2, tt)
+
+pub loop-i-preserved : goal.loop-i-preserved
+loop-i-preserved g c =
+    let h = c.args.sealed.now in
+    let rays = c.args.rays.now in
+    let inv = c.loop-i.invariant in
+    let traced = c.in_ok-trace_ray.ensures in
+    let headed = g.K.Sink.written c.print_ray.new.sink in
+    let new = g.K.Sink.written c.trace_ray.new.rows.sink in
+    let lines = subst (λ l. new ≡ with_after headed l) (lines_of_report h (texts_in c.loop-i.lines.sealed.now) traced.report.0 inv.items) traced.report.2.all in
+    record {
+      traced = traced_more h rays c.loop-i.i _ _ _ inv.traced c.ray-ray.result c.ray-ray.ensures.ray traced.report.0 traced.report.1 headed c.in_ok-print_ray.ensures.bytes.all lines;
+      tested = tested_more h rays c.loop-i.i _ _ _ inv.tested c.ray-ray.result c.ray-ray.ensures.ray traced.tests.0 traced.tests.1 traced.tests.3;
+      items = traced.same_items ∙ inv.items;
+      takes = traced.same_takes ∙ inv.takes;
+      room = subst (λ s. EachIndex h.volumes (λ v. length (instances h v) ≤ s)) (sym traced.room) inv.room;
+      faults = traced.cause.kept ∙ c.in_ok-print_ray.ensures.cause.kept ∙ inv.faults;
+      reads = traced.reads ∙ inv.reads;
+    }
+
+pub returns-clause-bytes : goal.returns-clause-bytes
+returns-clause-bytes g c =
+    let whole = traced_whole c.args.sealed.now c.args.rays.now c.loop-i.i _ _ c.loop-i.invariant.traced (omega arith) in
+    (whole.0, whole.1, record { all = whole.2; front = tt })
+
+pub returns-clause-tests : goal.returns-clause-tests
+returns-clause-tests g c =
+    let whole = tested_whole c.args.sealed.now c.args.rays.now c.loop-i.i _ _ c.loop-i.invariant.tested (omega arith) in
+    (whole.0, whole.1, omega (arith, whole.2), whole.2)
