@@ -1,5 +1,5 @@
 -- The words after the program's name, and the commands that they are.
-use Rattle.std.specs.Prelude.{◌≡◌, ℕ, pos, Bool, true, false, List, [], ◌∷◌, take, drop, Option, None, Some, Result, Ok, Err, if◌then◌else◌, codes}
+use Rattle.std.specs.Prelude.{◌≡◌, ℕ, pos, Bool, true, false, List, [], ◌∷◌, take, drop, Option, None, Some, Result, Ok, Err, if◌then◌else◌, codes, decimal, zero, suc}
 use Rattle.std.specs.Option.{option_and_then, option_map}
 use Rattle.std.specs.Str.{bytes_eq}
 use Rattle.gx_fraction.specs.Fraction.{Fraction}
@@ -10,9 +10,10 @@ use Rattle.gx_expr.specs.Eval.{value_of_word}
 use Rattle.gx_check.specs.declared.selection.Selection.TheVariants.{All, Refuting}
 use Rattle.g4exact.specs.declared.command.Options.{Options}
 use Rattle.g4exact.specs.declared.command.Command.{Command}
-use Rattle.g4exact.specs.declared.command.Command.TheVariants.{Reading}
+use Rattle.g4exact.specs.declared.command.Command.TheVariants.{Reading, Sample}
 use Rattle.g4exact.specs.declared.command.Verb.{Verb}
 use Rattle.g4exact.specs.declared.command.Verb.TheVariants.{Trace, Check, List as Listed}
+use Rattle.g4exact.specs.declared.command.Telling.TheVariants.{Rows}
 
 -- the words after the program's name, of the arguments that were given; none where these are no texts
 abbrev pub AreWords : {A E X : Type 0} → (A → List X) → Result A E → List X → Type 0
@@ -67,7 +68,7 @@ grid_or (Some grid) = grid
 -- what is done with a text
 abbrev pub verb_of : List ℕ → Option Verb
 verb_of word =
-    if bytes_eq word (codes "trace") then Some Trace
+    if bytes_eq word (codes "trace") then Some (Trace Rows)
     else if bytes_eq word (codes "check") then Some (Check All)
     else if bytes_eq word (codes "list") then Some Listed
     else None
@@ -81,6 +82,22 @@ abbrev pub reading_with : Verb → Options → Command
 reading_with verb options = Reading (verb_with options.brief verb) (grid_or options.grid)
 
 -- a verb, and then its options: `trace [--grid=EXPR]`, `check [--brief] [--grid=EXPR]`, `list [--grid=EXPR]`
+abbrev pub reading_of : List ℕ → List (List ℕ) → Option Command
+reading_of first words = option_and_then (λ verb. option_map (reading_with verb) (options_from verb no_options words)) (verb_of first)
+
+-- the number from 1 up to another that is written so in decimal
+unfoldable pub number_up_to : ℕ → List ℕ → Option ℕ
+number_up_to zero word = None
+number_up_to (suc n) word = if bytes_eq (decimal (suc n)) word then Some (suc n) else number_up_to n word
+
+unfoldable pub greatest_sample : ℕ
+greatest_sample = 64
+
+-- one number: `sample N`
+abbrev pub sample_of : List (List ℕ) → Option Command
+sample_of (word ∷ []) = option_map Sample (number_up_to greatest_sample word)
+sample_of words = None
+
 abbrev pub command_of : List (List ℕ) → Option Command
 command_of [] = None
-command_of (first ∷ words) = option_and_then (λ verb. option_map (reading_with verb) (options_from verb no_options words)) (verb_of first)
+command_of (first ∷ words) = if bytes_eq first (codes "sample") then sample_of words else reading_of first words

@@ -8,7 +8,7 @@ use Rattle.gx_io.specs.declared.error.IoError.TheVariants as io
 use Rattle.gx_reader.specs.declared.reader.TheConstants.{MAX_TEXT}
 use Rattle.g4exact.specs.Output.{IsOutput}
 use Rattle.g4exact.specs.declared.command.Command.{Command}
-use Rattle.g4exact.specs.declared.command.Command.TheVariants.{Reading}
+use Rattle.g4exact.specs.declared.command.Command.TheVariants.{Reading, Sample}
 use Rattle.g4exact.specs.declared.command.Verb.{Verb}
 use Rattle.g4exact.specs.declared.command.Verb.TheVariants.{Trace, Check, List as Listed}
 use Rattle.g4exact.specs.declared.outcome.Status.{Status}
@@ -30,7 +30,7 @@ WritesFront output old new = (bytes : List ℕ) × (status : Status) × output b
 -- What was written where memory was wanting, by the verb: a front of what `check` writes, which takes memory between two writes;
 -- else nothing, since all memory is taken before the first byte is written.
 abbrev pub Wants : Verb → (List ℕ → Status → Type 0) → Option (List ℕ) → Option (List ℕ) → Type 0
-Wants Trace output old new = new ≡ old
+Wants (Trace telling) output old new = new ≡ old
 Wants Listed output old new = new ≡ old
 Wants (Check selection) output old new = WritesFront output old new
 
@@ -49,6 +49,7 @@ HasIoCause before now (Err io.NoMemory) = now ≡ before
 abbrev pub WantsCommand : Option Command → (List ℕ → Status → Type 0) → Option (List ℕ) → Option (List ℕ) → Type 0
 WantsCommand None output old new = new ≡ old
 WantsCommand (Some (Reading verb grid)) output old new = Wants verb output old new
+WantsCommand (Some (Sample number)) output old new = new ≡ old
 
 -- All of the output is written at the statuses that tell it, a front of it at a write fault, and nothing at a read fault.
 abbrev pub Ends : Option Command → (List ℕ → Status → Type 0) → Option (List ℕ) → Option (List ℕ) → Status → Type 0
@@ -71,7 +72,7 @@ pub record IsReadWhole (old new : Option (List ℕ)) (text : List ℕ) : Type 0 
   pub most : length text ≤ most_read
   pub all : length text < most_read → IsAtEnd new
 
--- The source isn't touched where the words are no command. Else as much as that is read, or all there is;
+-- The source isn't touched where the words are no command, and for a sample. Else as much as that is read, or all there is;
 -- where it failed or memory was wanting, some of it.
 abbrev pub IsReadOut : Option (List ℕ) → Option (List ℕ) → Status → Type 0
 IsReadOut old new ReadFault = IsReadFrom old new
@@ -81,6 +82,7 @@ IsReadOut old new status = new ≡ option_map (drop most_read) old
 abbrev pub IsRead : Option Command → Option (List ℕ) → Option (List ℕ) → Status → Type 0
 IsRead None old new status = new ≡ old
 IsRead (Some (Reading verb grid)) old new status = IsReadOut old new status
+IsRead (Some (Sample number)) old new status = new ≡ old
 
 -- words that are no command end with the usage line, or at a write fault
 abbrev pub NamesWords : Status → Type 0

@@ -1,4 +1,5 @@
 pub mod Commands
 pub mod Ends
+pub mod Marks
 pub mod Output
 pub mod Tests

@@ -1,9 +1,9 @@
 -- What the program writes, and with which status it ends.
-use Rattle.std.specs.Prelude.{◌≡◌, ℕ, ◌+◌, List, [], ◌∷◌, ◌++◌, Option, None, Some, Result, Ok, Err, find, if◌then◌else◌}
+use Rattle.std.specs.Prelude.{◌≡◌, ℕ, ◌+◌, ◌-◌, ◌^◌, min, sum_by, length, List, [], ◌∷◌, ◌++◌, Option, None, Some, Result, Ok, Err, find, if◌then◌else◌}
 use Rattle.std.specs.List.{flat_map, list_any}
 use Rattle.gx_num.specs.declared.ray.Ray.{Ray}
 use Rattle.gx_path.specs.Report.{Row, IsReport}
-use Rattle.gx_tree.specs.Hierarchy.{Hierarchy}
+use Rattle.gx_tree.specs.Hierarchy.{Hierarchy, instances, numbers}
 use Rattle.gx_tree.specs.Deepest.{path_along}
 use Rattle.gx_check.specs.declared.selection.Selection.{Selection}
 use Rattle.gx_check.specs.declared.verdict.Verdict.{Verdict}
@@ -11,12 +11,15 @@ use Rattle.gx_check.specs.Verdicts.{verdicts, refutes, chosen, counts_of}
 use Rattle.gx_gather.specs.declared.fault.TextFault.{TextFault}
 use Rattle.gx_link.specs.declared.input.Input.{Input}
 use Rattle.gx_reader.specs.Reading.{reading}
-use Rattle.gx_canon.specs.Canonical.{canonical}
-use Rattle.gx_print.specs.Texts.{usage_line, ray_head, row_text, fault_line, verdict_line, counts_line}
+use Rattle.gx_canon.specs.Canonical.{canonical, millimetre}
+use Rattle.gx_sample.specs.Text.{sample_text}
+use Rattle.gx_print.specs.Texts.{usage_line, ray_head, row_text, fault_line, verdict_line, counts_line, summary_line}
 use Rattle.g4exact.specs.declared.command.Command.{Command}
-use Rattle.g4exact.specs.declared.command.Command.TheVariants.{Reading}
+use Rattle.g4exact.specs.declared.command.Command.TheVariants.{Reading, Sample}
 use Rattle.g4exact.specs.declared.command.Verb.{Verb}
 use Rattle.g4exact.specs.declared.command.Verb.TheVariants.{Trace, Check, List as Listed}
+use Rattle.g4exact.specs.declared.command.Telling.{Telling}
+use Rattle.g4exact.specs.declared.command.Telling.TheVariants.{Rows, Summary}
 use Rattle.g4exact.specs.declared.outcome.Status.{Status}
 use Rattle.g4exact.specs.declared.outcome.Status.TheVariants.{Clean, Refuted, TextFault as Faulty, WordsFault}
 
@@ -34,18 +37,37 @@ IsTrace h number (ray ∷ rays) bytes =
 abbrev pub IsFault : TextFault → List ℕ → Status → Type 0
 IsFault fault bytes status = (bytes ≡ fault_line fault) × (status ≡ Faulty)
 
--- the reports of rays
-abbrev pub IsReported : Hierarchy → List Ray → List ℕ → Status → Type 0
-IsReported h rays bytes status = IsTrace h 1 rays bytes × (status ≡ Clean)
+-- so many rows have the reports of rays
+abbrev pub AreRows : Hierarchy → List Ray → ℕ → Type 0
+AreRows h [] n = n ≡ 0
+AreRows h (ray ∷ rays) n = (rows : List Row) × (rest : ℕ) × IsReport (path_along h ray) rows × AreRows h rays rest × (n ≡ length rows + rest)
+
+-- the daughters of all mothers, each mother once
+abbrev pub all_instances : Hierarchy → ℕ
+all_instances h = sum_by (λ v. length (instances h v)) (numbers h.volumes)
+
+-- the line of a sample; a count of rows stands still at the end of its type
+abbrev pub IsSummary : ℕ → Hierarchy → List Ray → List ℕ → Type 0
+IsSummary number h rays bytes =
+    (n : ℕ) × AreRows h rays n
+    × (bytes ≡ summary_line (record { number = number; instances = all_instances h; rays = length rays; rows = min n (2 ^ 64 - 1) }))
+
+-- what is told of reports
+abbrev pub IsTelling : Telling → Hierarchy → List Ray → List ℕ → Type 0
+IsTelling Rows h rays bytes = IsTrace h 1 rays bytes
+IsTelling (Summary number) h rays bytes = IsSummary number h rays bytes
+
+abbrev pub IsReported : Telling → Hierarchy → List Ray → List ℕ → Status → Type 0
+IsReported telling h rays bytes status = IsTelling telling h rays bytes × (status ≡ Clean)
 
 -- a verdict that refutes the hierarchy
 abbrev pub IsRefuted : Hierarchy → Verdict → List ℕ → Status → Type 0
 IsRefuted h verdict bytes status = (bytes ≡ verdict_line h verdict) × (status ≡ Refuted)
 
--- the first verdict that refutes the hierarchy; or where there is none, the reports
-abbrev pub IsTraced : Option Verdict → Input → List ℕ → Status → Type 0
-IsTraced (Some verdict) input bytes status = IsRefuted input.tree verdict bytes status
-IsTraced None input bytes status = IsReported input.tree input.rays bytes status
+-- the first verdict that refutes the hierarchy; or where there is none, what is told of the reports
+abbrev pub IsTraced : Telling → Option Verdict → Input → List ℕ → Status → Type 0
+IsTraced telling (Some verdict) input bytes status = IsRefuted input.tree verdict bytes status
+IsTraced telling None input bytes status = IsReported telling input.tree input.rays bytes status
 
 -- the lines of the selected verdicts on a hierarchy
 abbrev pub verdict_lines : Selection → Hierarchy → List ℕ
@@ -69,7 +91,7 @@ IsList input bytes status = (bytes ≡ canonical input.tree input.rays) × (stat
 abbrev pub IsWritten : Verb → Input → List ℕ → Status → Type 0
 IsWritten (Check selection) input bytes status = IsCheck selection input.tree bytes status
 IsWritten Listed input bytes status = IsList input bytes status
-IsWritten Trace input bytes status = IsTraced (find refutes (verdicts input.tree)) input bytes status
+IsWritten (Trace telling) input bytes status = IsTraced telling (find refutes (verdicts input.tree)) input bytes status
 
 -- the line of the text's fault; or where there is none, what the verb writes
 abbrev pub IsAnswer : Verb → Result Input TextFault → List ℕ → Status → Type 0
@@ -80,3 +102,4 @@ IsAnswer verb (Ok input) bytes status = IsWritten verb input bytes status
 abbrev pub IsOutput : Option Command → List ℕ → List ℕ → Status → Type 0
 IsOutput None text bytes status = (bytes ≡ usage_line) × (status ≡ WordsFault)
 IsOutput (Some (Reading verb grid)) text bytes status = IsAnswer verb (reading grid text) bytes status
+IsOutput (Some (Sample number)) text bytes status = IsAnswer (Trace (Summary number)) (reading millimetre (sample_text number)) bytes status

@@ -7,11 +7,14 @@ use Rattle.gx_check.specs.Verdicts.{verdicts, refutes}
 use Rattle.gx_gather.specs.declared.fault.TextFault.{TextFault}
 use Rattle.gx_link.specs.declared.input.Input.{Input}
 use Rattle.gx_reader.specs.Reading.{reading}
+use Rattle.gx_canon.specs.Canonical.{millimetre}
+use Rattle.gx_sample.specs.Text.{sample_text}
 use Rattle.gx_navigator.specs.Tests.{IsTestCount}
 use Rattle.g4exact.specs.declared.command.Command.{Command}
-use Rattle.g4exact.specs.declared.command.Command.TheVariants.{Reading}
+use Rattle.g4exact.specs.declared.command.Command.TheVariants.{Reading, Sample}
 use Rattle.g4exact.specs.declared.command.Verb.{Verb}
 use Rattle.g4exact.specs.declared.command.Verb.TheVariants.{Trace}
+use Rattle.g4exact.specs.declared.command.Telling.TheVariants.{Summary}
 use Rattle.g4exact.specs.declared.outcome.Status.{Status}
 use Rattle.g4exact.specs.declared.outcome.Status.TheVariants.{Clean, ReadFault}
 
@@ -34,11 +37,12 @@ AreTested None input old new whole = RisesBy input.tree input.rays old new whole
 
 -- where rays are traced, and the text has no fault; else there is no test
 abbrev pub AnswersTested : Verb → Result Input TextFault → ℕ → ℕ → Type 0 → Type 0
-AnswersTested Trace (Ok input) old new whole = AreTested (find refutes (verdicts input.tree)) input old new whole
+AnswersTested (Trace telling) (Ok input) old new whole = AreTested (find refutes (verdicts input.tree)) input old new whole
 AnswersTested verb read old new whole = new ≡ old
 
 -- the tests of a command for a text
 abbrev pub IsTested : Option Command → List ℕ → ℕ → ℕ → Status → Type 0
 IsTested (Some (Reading verb grid)) text old new ReadFault = new ≡ old
 IsTested (Some (Reading verb grid)) text old new status = AnswersTested verb (reading grid text) old new (status ≡ Clean)
+IsTested (Some (Sample number)) text old new status = AnswersTested (Trace (Summary number)) (reading millimetre (sample_text number)) old new (status ≡ Clean)
 IsTested None text old new status = new ≡ old

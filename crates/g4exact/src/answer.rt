@@ -113,7 +113,7 @@ fn write_answer<K: Sink, T: Ledger, Q: Ledger>(
 {
     match read {
         Ok(input) => match verb {
-            Verb::Trace => write_trace(alloc, input, sink, tests, reads),
+            Verb::Trace(telling) => write_trace(alloc, telling, input, sink, tests, reads),
             Verb::Check(selection) => write_check(alloc, selection, &input.tree, sink),
             Verb::List => write_list(&input, sink),
         },

@@ -1,31 +1,45 @@
 ghost use Rattle.std.specs.Prelude.{◌≡◌, [], map, string_bytes};
 ghost use Rattle.gx_expr.specs.Eval.{value_of_word};
-ghost use Rattle.g4exact.specs.Commands.{step_of, grid_of, takes_brief, with_brief, with_grid, with_option, options_from, no_options, verb_of, verb_with, command_of};
+ghost use Rattle.g4exact.specs.Commands.{step_of, grid_of, takes_brief, with_brief, with_grid, with_option, options_from, no_options, verb_of, verb_with, reading_of, number_up_to, greatest_sample, sample_of, command_of};
 
 use gx_check::Selection;
 use gx_expr::{Grid, Params, eval};
+use itoa::Buffer;
 use std::alloc::Global;
 
 const BRIEF: &[u8; 7] = b"--brief";
 
 const OPTION: &[u8; 7] = b"--grid=";
 
+const GREATEST_SAMPLE: u32 = 64;
+
 /// What the words ask for.
 #[derive(Clone, Copy, Debug, PartialEq, Eq)]
 pub enum Command {
     /// A text is read, with lengths in steps of the grid, and the verb says what is written of it.
     Reading { verb: Verb, grid: Grid },
+    /// The sample text of this number is traced, on a grid of 1 mm, and no text is read.
+    Sample { number: u32 },
 }
 
 /// What is written of a text.
 #[derive(Clone, Copy, Debug, PartialEq, Eq)]
 pub enum Verb {
-    /// Each ray's report.
-    Trace,
+    /// Each ray's report, or what is told of it.
+    Trace(Telling),
     /// The verdicts on daughters and pairs of daughters, and their counts.
     Check(Selection),
     /// The canonical text of the geometry and the rays.
     List,
+}
+
+/// What is told of reports.
+#[derive(Clone, Copy, Debug, PartialEq, Eq)]
+pub enum Telling {
+    /// Their rows.
+    Rows,
+    /// How many rows they have, for the sample of this number.
+    Summary(u32),
 }
 
 /// The command that the words after the program's name are, if they are one. Takes no memory.
@@ -35,7 +49,17 @@ pub fn command_from(alloc: Global, words: &[String]) -> Option<Command>
     let [first, words @ ..] = words else {
         return None;
     };
-    let verb = verb_from(first.as_str())?;
+    if first.as_str() == "sample" {
+        return sample_from(words);
+    }
+    reading_from(alloc, first.as_str(), words)
+}
+
+// A verb, and then its options.
+fn reading_from(alloc: Global, first: &str, words: &[String]) -> Option<Command>
+    ensures { result ≡ reading_of first.now (map string_bytes words.now) }
+{
+    let verb = verb_from(first)?;
     let options = options_of(alloc, verb, words)?;
     Some(Command::Reading {
         verb: with_options(verb, options.brief),
@@ -43,11 +67,36 @@ pub fn command_from(alloc: Global, words: &[String]) -> Option<Command>
     })
 }
 
+// One number.
+fn sample_from(words: &[String]) -> Option<Command>
+    ensures { result ≡ sample_of (map string_bytes words.now) }
+{
+    let [word] = words else {
+        return None;
+    };
+    let number = number_from(word.as_bytes())?;
+    Some(Command::Sample { number })
+}
+
+// The number from 1 to 64 that is written like the word.
+fn number_from(word: &[u8]) -> Option<u32>
+    ensures { result ≡ number_up_to greatest_sample word.now }
+{
+    let mut number = GREATEST_SAMPLE;
+    while number > 0 {
+        if Buffer::new().format(number).as_bytes() == word {
+            return Some(number);
+        }
+        number -= 1;
+    }
+    None
+}
+
 fn verb_from(word: &str) -> Option<Verb>
     ensures { result ≡ verb_of word.now }
 {
     match word {
-        "trace" => Some(Verb::Trace),
+        "trace" => Some(Verb::Trace(Telling::Rows)),
         "check" => Some(Verb::Check(Selection::All)),
         "list" => Some(Verb::List),
         _ => None,

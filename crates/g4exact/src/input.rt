@@ -1,6 +1,5 @@
 ghost use Rattle.std.specs.Prelude.{◌≡◌, ◌<◌, ◌++◌, ℕ, List, [], length, IfOk, IfErr, OnOk, OnErr, IsErrOf};
 ghost use Rattle.gx_io.specs.Bytes.{next_fault};
-ghost use Rattle.gx_io.specs.declared.error.IoError.TheVariants.{NoMemory};
 ghost use Rattle.gx_reader.specs.Reader.{read_as};
 ghost use Rattle.gx_reader.specs.Reading.{reading};
 ghost use Rattle.gx_reader.specs.Resumed.{answered};
@@ -10,6 +9,7 @@ use gx_expr::Grid;
 use gx_gather::{ReadError, TextFault};
 use gx_io::{IoError, PIECE, Source};
 use gx_link::Input;
+use gx_num::NoMemory;
 use gx_reader::{MAX_TEXT, Reader};
 use std::alloc::Global;
 
@@ -35,7 +35,7 @@ pub fn read_input<S: Source>(
     let mut buffer = vec![in alloc; 0u8; PIECE]?;
     let mut reader = Reader::new(alloc, *grid);
     feed(&mut reader, source, buffer.as_mut_slice())?;
-    finish(reader)
+    Ok(finish(reader)?)
 }
 
 // Feeds a reader what the source has, as much of it at once as the buffer takes.
@@ -62,14 +62,26 @@ fn feed<S: Source>(reader: &mut Reader, source: &mut S, buffer: &mut [u8]) -> Re
     Ok(())
 }
 
+/// The same of a text that is at hand.
+pub fn read_text(
+    alloc: Global,
+    grid: &Grid,
+    text: &[u8],
+) -> Result<Result<Input, TextFault>, NoMemory>
+    ensures { IfOk result (λ read. reading grid.now text.now ≡ read) }
+{
+    let mut reader = Reader::new(alloc, *grid);
+    reader.feed(text)?;
+    finish(reader)
+}
+
 // What a reader makes of no more bytes.
-fn finish(reader: Reader) -> Result<Result<Input, TextFault>, IoError>
-    ensures ok { IfOk result (λ read. read_as reader [] ≡ answered read) }
-    ensures err { IfErr result (λ error. error ≡ NoMemory) }
+fn finish(reader: Reader) -> Result<Result<Input, TextFault>, NoMemory>
+    ensures { IfOk result (λ read. read_as reader [] ≡ answered read) }
 {
     match reader.finish() {
         Ok(input) => Ok(Ok(input)),
         Err(ReadError::Text(fault)) => Ok(Err(fault)),
-        Err(ReadError::NoMemory) => Err(IoError::NoMemory),
+        Err(ReadError::NoMemory) => Err(NoMemory),
     }
 }

@@ -9,6 +9,7 @@ mod input;
 mod list;
 mod outcome;
 mod run;
+mod summary;
 #[cfg(test)]
 mod tests;
 mod trace;
@@ -19,7 +20,7 @@ ghost use Rattle.g4exact.specs.Commands.{command_of};
 ghost use Rattle.g4exact.specs.declared.outcome.Status.TheVariants.{ReadFault};
 ghost use Rattle.g4exact.specs.Ends.{IsTold, IsRead, JudgesWords, Blames, HasFailed, RunsTo};
 
-pub use command::{Command, Verb};
+pub use command::{Command, Telling, Verb};
 use gx_io::{Sink, Source, StdSink, StdSource};
 use gx_steps::Steps;
 pub use outcome::{Status, exit_code};

@@ -1,18 +1,25 @@
-ghost use Rattle.std.specs.Prelude.{◌≡◌, ℕ, List, map, string_bytes, Some, None};
+ghost use Rattle.std.specs.Prelude.{◌≡◌, ℕ, List, map, string_bytes, Some, None, IfOk};
 ghost use Rattle.g4exact.specs.Commands.{command_of};
 ghost use Rattle.g4exact.specs.Output.{IsOutput};
-ghost use Rattle.g4exact.specs.declared.command.Command.TheVariants.{Reading};
+ghost use Rattle.g4exact.specs.declared.command.Command.TheVariants.{Reading, Sample};
+ghost use Rattle.gx_reader.specs.Reading.{reading};
+ghost use Rattle.gx_canon.specs.Canonical.{millimetre};
+ghost use Rattle.gx_sample.specs.Text.{sample_text as text_of_sample};
 ghost use Rattle.g4exact.specs.declared.outcome.Status.TheVariants.{ReadFault};
 ghost use Rattle.g4exact.specs.Ends.{Ends, IsTold, IsRead, JudgesWords, NamesWords, Blames, HasFailed, RunsTo};
 ghost use Rattle.g4exact.specs.Tests.{IsTested};
 
 use crate::answer::answer;
-use crate::command::{Command, Verb, command_from};
-use crate::input::read_input;
+use crate::command::{Command, Telling, Verb, command_from};
+use crate::input::{read_input, read_text};
 use crate::outcome::Status;
 use gx_expr::Grid;
+use gx_gather::TextFault;
 use gx_io::{IoError, Sink, Source};
+use gx_link::Input;
+use gx_num::NoMemory;
 use gx_print::print_usage;
+use gx_sample::sample_text;
 use gx_steps::Steps;
 use std::alloc::Global;
 use std::sync::ledger::Ledger;
@@ -74,6 +81,7 @@ fn execute<S: Source, K: Sink, T: Ledger, Q: Ledger>(
 {
     match command {
         Command::Reading { verb, grid } => read(alloc, verb, &grid, source, sink, tests, reads),
+        Command::Sample { number } => sample(alloc, number, sink, tests, reads),
     }
 }
 
@@ -100,6 +108,33 @@ fn read<S: Source, K: Sink, T: Ledger, Q: Ledger>(
         Err(IoError::Failed) => Status::ReadFault,
         Err(IoError::NoMemory) => Status::NoMemory,
     }
+}
+
+// Makes a sample's text, and writes how many rows its reports have.
+fn sample<K: Sink, T: Ledger, Q: Ledger>(
+    alloc: Global,
+    number: u32,
+    sink: &mut K,
+    tests: &mut Steps<T>,
+    reads: &mut Steps<Q>,
+) -> Status
+    ensures output { (text : List ℕ) → Ends (Some (Sample number)) (IsOutput (Some (Sample number)) text) (K.written sink.old) (K.written sink.new) result
+        × IsTested (Some (Sample number)) text tests.old tests.new result }
+    ensures blames { (source : ℕ) → Blames source source (K.faults sink.old) (K.faults sink.new) result }
+    ensures reads { reads.new ≡ reads.old }
+{
+    match sample_input(alloc, number) {
+        Ok(read) => answer(alloc, Verb::Trace(Telling::Summary(number)), read, sink, tests, reads),
+        Err(NoMemory) => Status::NoMemory,
+    }
+}
+
+// What the text of a sample declares.
+fn sample_input(alloc: Global, number: u32) -> Result<Result<Input, TextFault>, NoMemory>
+    ensures { IfOk result (λ read. reading millimetre (text_of_sample number) ≡ read) }
+{
+    let text = sample_text(alloc, number)?;
+    read_text(alloc, &Grid::millimetre(), &text)
 }
 
 fn usage<K: Sink>(sink: &mut K) -> Status

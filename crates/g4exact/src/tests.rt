@@ -501,6 +501,10 @@ fn other_words_give_the_usage_line(rt: HostRuntime) -> Result<(), Fail> {
         &["list", "--brief"],
         &["check", "--grid=1*mm", "--brief", "--grid=1*mm"],
         &["sample", "65"],
+        &["sample", "0"],
+        &["sample", "01"],
+        &["sample"],
+        &["sample", "1", "1"],
         &["--help"],
     ];
     for words in all {
@@ -509,6 +513,26 @@ fn other_words_give_the_usage_line(rt: HostRuntime) -> Result<(), Fail> {
             text: WORLD.as_bytes(),
             status: Status::WordsFault,
             output: usage,
+        };
+        check(&rt, alloc, &case)?;
+    }
+    Ok(())
+}
+
+#[test]
+fn a_sample_is_counted(rt: HostRuntime) -> Result<(), Fail> {
+    let alloc = rt.alloc();
+    let samples = [
+        ("1", "sample 1 instances 2 rays 3 rows 15\n"),
+        ("2", "sample 2 instances 5 rays 3 rows 10\n"),
+        ("32", "sample 32 instances 1025 rays 3 rows 100\n"),
+    ];
+    for (number, output) in samples {
+        let case = Case {
+            words: &["sample", number],
+            text: b"not read",
+            status: Status::Clean,
+            output,
         };
         check(&rt, alloc, &case)?;
     }

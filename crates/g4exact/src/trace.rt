@@ -8,12 +8,16 @@ ghost use Rattle.gx_gather.specs.Rays.{IsTraceable};
 ghost use Rattle.gx_print.specs.Range.{is_path};
 ghost use Rattle.gx_print.specs.Texts.{row_text};
 ghost use Rattle.g4exact.specs.declared.command.Verb.TheVariants.{Trace};
+ghost use Rattle.g4exact.specs.declared.command.Telling.{Telling};
+ghost use Rattle.g4exact.specs.declared.command.Telling.TheVariants.{Rows};
 ghost use Rattle.g4exact.specs.Output.{IsTrace, IsReported, IsRefuted, IsWritten};
 ghost use Rattle.g4exact.specs.Ends.{Answers, HasIoCause};
 ghost use Rattle.g4exact.specs.Tests.{Rises, RisesBy, AreTested};
 ghost use Rattle.g4exact.specs.declared.outcome.Status.TheVariants.{Clean};
 
+use crate::command::Telling;
 use crate::outcome::Status;
+use crate::summary::write_summary;
 use gx_check::Verdict;
 use gx_check::laws::clean_where_unrefuted;
 use gx_gather::Rays;
@@ -130,7 +134,7 @@ fn print_reports<K: Sink, T: Ledger, Q: Ledger>(
 }
 
 // Writes the reports of rays in a sealed hierarchy. The memory is taken before the first write.
-fn write_reports<K: Sink, T: Ledger, Q: Ledger>(
+fn write_rows<K: Sink, T: Ledger, Q: Ledger>(
     alloc: Global,
     sealed: &Sealed,
     rays: &Rays,
@@ -139,7 +143,7 @@ fn write_reports<K: Sink, T: Ledger, Q: Ledger>(
     reads: &mut Steps<Q>,
 ) -> Result<Status, IoError>
     requires { All IsTraceable rays.now }
-    ensures output { Answers Trace (IsReported sealed.now rays.now) (K.written sink.old) (K.written sink.new) result }
+    ensures output { Answers (Trace Rows) (IsReported Rows sealed.now rays.now) (K.written sink.old) (K.written sink.new) result }
     ensures cause { HasIoCause (K.faults sink.old) (K.faults sink.new) result }
     ensures tests { RisesBy sealed.now rays.now tests.old tests.new (result ≡ Ok Clean) }
     ensures reads { reads.new ≡ reads.old }
@@ -149,6 +153,29 @@ fn write_reports<K: Sink, T: Ledger, Q: Ledger>(
     Ok(Status::Clean)
 }
 
+// Writes what is told of the reports.
+fn write_reports<K: Sink, T: Ledger, Q: Ledger>(
+    alloc: Global,
+    telling: Telling,
+    sealed: &Sealed,
+    rays: &Rays,
+    sink: &mut K,
+    tests: &mut Steps<T>,
+    reads: &mut Steps<Q>,
+) -> Result<Status, IoError>
+    requires kept { IsSealed sealed.now }
+    requires rays { All IsTraceable rays.now }
+    ensures output { Answers (Trace telling) (IsReported telling sealed.now rays.now) (K.written sink.old) (K.written sink.new) result }
+    ensures cause { HasIoCause (K.faults sink.old) (K.faults sink.new) result }
+    ensures tests { RisesBy sealed.now rays.now tests.old tests.new (result ≡ Ok Clean) }
+    ensures reads { reads.new ≡ reads.old }
+{
+    match telling {
+        Telling::Rows => write_rows(alloc, sealed, rays, sink, tests, reads),
+        Telling::Summary(number) => write_summary(alloc, number, sealed, rays, sink, tests, reads),
+    }
+}
+
 // Writes the verdict that refutes a hierarchy.
 fn write_refuted<K: Sink>(
     tree: &Hierarchy,
@@ -156,23 +183,24 @@ fn write_refuted<K: Sink>(
     sink: &mut K,
 ) -> Result<Status, IoError>
     requires { find refutes (verdicts tree.now) ≡ Some verdict.now }
-    ensures output { Answers Trace (IsRefuted tree.now verdict.now) (K.written sink.old) (K.written sink.new) result }
+    ensures output { (telling : Telling) → Answers (Trace telling) (IsRefuted tree.now verdict.now) (K.written sink.old) (K.written sink.new) result }
     ensures cause { HasIoCause (K.faults sink.old) (K.faults sink.new) result }
 {
     print_verdict(tree, verdict, sink)?;
     Ok(Status::Refuted)
 }
 
-/// Writes the report of each ray; or where the hierarchy isn't clean, the first verdict that refutes it. All memory is taken
-/// before the first write.
+/// Writes what is told of each ray's report; or where the hierarchy isn't clean, the first verdict that refutes it. All memory is
+/// taken before the first write.
 pub fn write_trace<K: Sink, T: Ledger, Q: Ledger>(
     alloc: Global,
+    telling: Telling,
     input: Input,
     sink: &mut K,
     tests: &mut Steps<T>,
     reads: &mut Steps<Q>,
 ) -> Result<Status, IoError>
-    ensures output { Answers Trace (IsWritten Trace input) (K.written sink.old) (K.written sink.new) result }
+    ensures output { Answers (Trace telling) (IsWritten (Trace telling) input) (K.written sink.old) (K.written sink.new) result }
     ensures cause { HasIoCause (K.faults sink.old) (K.faults sink.new) result }
     ensures tests { AreTested (find refutes (verdicts input.tree)) input tests.old tests.new (result ≡ Ok Clean) }
     ensures reads { reads.new ≡ reads.old }
@@ -184,7 +212,7 @@ pub fn write_trace<K: Sink, T: Ledger, Q: Ledger>(
     let _ = tree.world();
     let _ = rays.count();
     match Sealed::new(alloc, tree) {
-        Ok(sealed) => write_reports(alloc, &sealed, &rays, sink, tests, reads),
+        Ok(sealed) => write_reports(alloc, telling, &sealed, &rays, sink, tests, reads),
         Err(SealError::Refuted { tree, verdict }) => write_refuted(&tree, &verdict, sink),
         Err(SealError::NoMemory) => Err(IoError::NoMemory),
     }

@@ -52,6 +52,16 @@ impl Grid {
         }
     }
 
+    /// A millimetre.
+    #[tactic(auto, unfolding(gx_num::specs::Number::common_divisor))]
+    pub fn millimetre() -> Grid
+        ensures { result ≡ record { num = pos 1; den = 1 } }
+    {
+        Grid {
+            size: Frac::new(1, 1),
+        }
+    }
+
     /// The step, in millimetres.
     pub fn size(&self) -> Frac
         ensures value { result ≡ self.now }

@@ -23,11 +23,11 @@ fn each_line_has_its_bytes(rt: HostRuntime) -> Result<(), Fail> {
         number: 2,
         instances: 5,
         rays: 3,
-        rows: 11,
+        rows: 10,
     };
     print_summary(&summary, &mut sink)?;
     let lines =
-        b"ray 65536\nfault 20 4 OffGrid\nusage: g4exact (trace | check [--brief] | list) [--grid=EXPR] | sample N\nsample 2 instances 5 rays 3 rows 11\n";
+        b"ray 65536\nfault 20 4 OffGrid\nusage: g4exact (trace | check [--brief] | list) [--grid=EXPR] | sample N\nsample 2 instances 5 rays 3 rows 10\n";
     assert!(rt; sink.written() == lines.as_slice());
     Ok(())
 }

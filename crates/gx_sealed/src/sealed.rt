@@ -78,6 +78,14 @@ impl Sealed {
         self.tree.world()
     }
 
+    /// How many volumes there are.
+    pub fn count(&self) -> u32
+        ensures value { result ≡ length self.now.volumes }
+        ensures kept { IsSealed self.now }
+    {
+        self.tree.count()
+    }
+
     pub fn name(&self, v: u32) -> &[u8]
         requires { v < length self.now.volumes }
         ensures value { result.now ≡ (volume_at self.now.volumes v).name }
