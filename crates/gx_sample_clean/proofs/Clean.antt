@@ -58,9 +58,6 @@ same_place w h x i j weight below_i above_i below_j above_j = elim (cases_lt i j
 
 -- ---- the cells of the world
 
-cell_is : (n k : ℕ) (p : Vec4) → Vec4
-cell_is n k p = seen n (k % n) (k / n) p
-
 row_below : (n k : ℕ) → 1 ≤ n → k < n * n → k / n < n
 row_below n k some less = (div-lt_iff_lt-mul some).1 (omega (arith, less))
 

@@ -23,9 +23,11 @@ first n = pos 10 -ℤ half n
 abbrev pub start : ℕ → ℤ
 start n = neg_ℤ (half n) -ℤ pos 30
 
+-- n columns of n cells, with 20 from one centre to the next
 abbrev pub cells : ℕ → Placement
 cells n = Square 1 0 identity n n (pos 20) (pos 20) (first n) (first n)
 
+-- at the centre of its cell
 abbrev pub core : Placement
 core = Single 2 (pos 1) identity (point (pos 0) (pos 0) (pos 0))
 
@@ -55,7 +57,7 @@ sample_tree n = record { volumes = sample_volumes n; world = 0 }
 abbrev pub ray : V3 → V3 → Ray
 ray o d = record { o = o; d = d }
 
--- along a side of the cells, through corners of theirs, and along a face of the first
+-- along x, along the diagonal of x and y through the corners of cells, and along z
 abbrev pub sample_rays : ℕ → List Ray
 sample_rays n =
     ray (point (start n) (pos 0) (pos 0)) (point (pos 1) (pos 0) (pos 0))
