@@ -1,9 +1,9 @@
 -- What the program writes, and with which status it ends.
-use Rattle.std.specs.Prelude.{◌≡◌, ℕ, ◌+◌, ◌-◌, ◌^◌, min, sum_by, length, List, [], ◌∷◌, ◌++◌, Option, None, Some, Result, Ok, Err, find, if◌then◌else◌}
+use Rattle.std.specs.Prelude.{◌≡◌, ℕ, ◌+◌, ◌-◌, ◌^◌, min, length, List, [], ◌∷◌, ◌++◌, Option, None, Some, Result, Ok, Err, find, if◌then◌else◌}
 use Rattle.std.specs.List.{flat_map, list_any}
 use Rattle.gx_num.specs.declared.ray.Ray.{Ray}
 use Rattle.gx_path.specs.Report.{Row, IsReport}
-use Rattle.gx_tree.specs.Hierarchy.{Hierarchy, instances, numbers}
+use Rattle.gx_tree.specs.Hierarchy.{Hierarchy}
 use Rattle.gx_tree.specs.Deepest.{path_along}
 use Rattle.gx_check.specs.declared.selection.Selection.{Selection}
 use Rattle.gx_check.specs.declared.verdict.Verdict.{Verdict}
@@ -13,6 +13,7 @@ use Rattle.gx_link.specs.declared.input.Input.{Input}
 use Rattle.gx_reader.specs.Reading.{reading}
 use Rattle.gx_canon.specs.Canonical.{canonical, millimetre}
 use Rattle.gx_sample.specs.Text.{sample_text}
+use Rattle.gx_sample_clean.specs.Sample.{instances_of_all}
 use Rattle.gx_print.specs.Texts.{usage_line, ray_head, row_text, fault_line, verdict_line, counts_line, summary_line}
 use Rattle.g4exact.specs.declared.command.Command.{Command}
 use Rattle.g4exact.specs.declared.command.Command.TheVariants.{Reading, Sample}
@@ -42,15 +43,11 @@ abbrev pub AreRows : Hierarchy → List Ray → ℕ → Type 0
 AreRows h [] n = n ≡ 0
 AreRows h (ray ∷ rays) n = (rows : List Row) × (rest : ℕ) × IsReport (path_along h ray) rows × AreRows h rays rest × (n ≡ length rows + rest)
 
--- the daughters of all mothers, each mother once
-abbrev pub all_instances : Hierarchy → ℕ
-all_instances h = sum_by (λ v. length (instances h v)) (numbers h.volumes)
-
 -- the line of a sample; a count of rows stands still at the end of its type
 abbrev pub IsSummary : ℕ → Hierarchy → List Ray → List ℕ → Type 0
 IsSummary number h rays bytes =
     (n : ℕ) × AreRows h rays n
-    × (bytes ≡ summary_line (record { number = number; instances = all_instances h; rays = length rays; rows = min n (2 ^ 64 - 1) }))
+    × (bytes ≡ summary_line (record { number = number; instances = instances_of_all h; rays = length rays; rows = min n (2 ^ 64 - 1) }))
 
 -- what is told of reports
 abbrev pub IsTelling : Telling → Hierarchy → List Ray → List ℕ → Type 0

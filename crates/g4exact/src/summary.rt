@@ -1,10 +1,12 @@
-ghost use Rattle.std.specs.Prelude.{◌≡◌, ◌≤◌, ◌+◌, ◌-◌, ◌^◌, ℕ, min, length, EachIndex, Ok};
+ghost use Rattle.std.specs.Prelude.{◌≡◌, ◌≤◌, ◌+◌, ◌-◌, ◌^◌, ℕ, min, length, All, EachIndex, Ok};
 ghost use Rattle.gx_tree.specs.Hierarchy.{instances};
+ghost use Rattle.gx_gather.specs.Rays.{IsTraceable};
 ghost use Rattle.gx_sealed.specs.Sealed.{IsSealed};
 ghost use Rattle.g4exact.specs.declared.command.Verb.TheVariants.{Trace};
 ghost use Rattle.g4exact.specs.declared.command.Telling.TheVariants.{Summary as Summed};
 ghost use Rattle.g4exact.specs.declared.outcome.Status.TheVariants.{Clean};
-ghost use Rattle.g4exact.specs.Output.{AreRows, IsReported, all_instances};
+ghost use Rattle.g4exact.specs.Output.{AreRows, IsReported};
+ghost use Rattle.gx_sample_clean.specs.Sample.{instances_of_all};
 ghost use Rattle.g4exact.specs.Ends.{Answers, HasIoCause};
 ghost use Rattle.g4exact.specs.Tests.{RisesBy};
 
@@ -90,7 +92,7 @@ fn count_rows<L: Ledger, T: Ledger, Q: Ledger>(
 
 // The daughters of all mothers, each mother once.
 fn instances_of(sealed: &Sealed) -> u32
-    ensures { result ≡ all_instances sealed.now }
+    ensures { result ≡ instances_of_all sealed.now }
 {
     let mut all = 0;
     for v in 0..sealed.count() {
@@ -109,6 +111,8 @@ pub fn write_summary<K: Sink, T: Ledger, Q: Ledger>(
     tests: &mut Steps<T>,
     reads: &mut Steps<Q>,
 ) -> Result<Status, IoError>
+    requires kept { IsSealed sealed.now }
+    requires rays { All IsTraceable rays.now }
     ensures output { Answers (Trace (Summed number)) (IsReported (Summed number) sealed.now rays.now) (K.written sink.old) (K.written sink.new) result }
     ensures cause { HasIoCause (K.faults sink.old) (K.faults sink.new) result }
     ensures tests { RisesBy sealed.now rays.now tests.old tests.new (result ≡ Ok Clean) }

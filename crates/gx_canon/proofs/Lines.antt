@@ -19,7 +19,7 @@ use Rattle.gx_canon.proofs.Bytes.{before_bare, before_clear, bare_after}
 -- ---- bytes
 
 -- visible, or a blank
-abbrev in_line : ℕ → Bool
+abbrev pub in_line : ℕ → Bool
 in_line b = is_visible b || (b == 32)
 
 not_blank : (b : ℕ) → is_visible b ≡ true → is_blank b ≡ false
@@ -31,7 +31,7 @@ visible_in b e = rw e refl
 line_allowed : (b : ℕ) → in_line b ≡ true → not (is_allowed b) ≡ false
 line_allowed b e = grind (arith, nat_tests, e)
 
-not_feed : (b : ℕ) → in_line b ≡ true → b == 10 ≡ false
+pub not_feed : (b : ℕ) → in_line b ≡ true → b == 10 ≡ false
 not_feed b e = grind (arith, nat_tests, e)
 
 not_return : (b : ℕ) → in_line b ≡ true → b == 13 ≡ false
@@ -60,7 +60,7 @@ joined_bare [] h = refl
 joined_bare (w ∷ []) h = bare w (All-head IsWord w [] h)
 joined_bare (w ∷ v ∷ ws) h = bare_after w (joined (v ∷ ws)) (bare w (All-head IsWord w (v ∷ ws) h)) (joined_bare (v ∷ ws) (All-tail IsWord w (v ∷ ws) h))
 
-no_return : (line : List ℕ) → AllPass in_line line → strip_carriage_return line ≡ line
+pub no_return : (line : List ℕ) → AllPass in_line line → strip_carriage_return line ≡ line
 no_return [] h = refl
 no_return (b ∷ line) h = rw (not_return _ (h (length (b ∷ line) - 1) 0 (omega arith))) refl
 
@@ -96,7 +96,7 @@ some_line number [] some = absurd cc
 some_line number (w ∷ ws) some = refl
 
 -- a printed line, read
-ended_joined : (number : ℕ) (ws : List (List ℕ)) → IsLine ws → ended number (joined ws) ≡ Ok (Some (record { number = number; words = ws }))
+pub ended_joined : (number : ℕ) (ws : List (List ℕ)) → IsLine ws → ended number (joined ws) ≡ Ok (Some (record { number = number; words = ws }))
 ended_joined number ws h =
     ap (ended_with number (joined ws)) (fault_joined number ws h)
     ∙ ap (λ (words : List (List ℕ)). Ok (line_of number words)) (ap words_in (visible_joined ws h.visible) ∙ parts_joined ws h.visible)

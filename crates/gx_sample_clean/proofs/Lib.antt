@@ -1,0 +1,9 @@
+pub mod Clean
+pub mod Gathered
+pub mod Lines
+pub mod Linked
+pub mod Points
+pub mod Rows
+pub mod Sample
+pub mod Text
+pub mod Values
