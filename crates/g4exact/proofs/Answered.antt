@@ -17,23 +17,24 @@ use Rattle.g4exact.specs.declared.outcome.Status.TheVariants.{Clean, Refuted, Te
 use Rattle.g4exact.specs.declared.command.Command.TheVariants.{Reading}
 use Rattle.g4exact.specs.declared.command.Verb.{Verb}
 use Rattle.g4exact.specs.declared.command.Verb.TheVariants.{Trace, Check, List as Listed}
+use Rattle.g4exact.specs.declared.command.Telling.{Telling}
 use Rattle.g4exact.specs.Output.{IsTraced, IsAnswer}
 use Rattle.g4exact.specs.Ends.{WritesAll, WritesFront, Wants, Answers, HasIoCause, Ends, Blames}
 
 -- the statuses that tell a whole output of a text
-abbrev Tells : Status → Type 0
+abbrev pub Tells : Status → Type 0
 Tells Clean = Unit {0}
 Tells Refuted = Unit {0}
 Tells Faulty = Unit {0}
 Tells status = ⊥
 
-traced_tells : (refuted : Option Verdict) (input : Input) (bytes : List ℕ) (status : Status) → IsTraced refuted input bytes status → Tells status
-traced_tells None input bytes status (trace, e) = subst Tells (sym e) tt
-traced_tells (Some verdict) input bytes status (line, e) = subst Tells (sym e) tt
+pub traced_tells : (telling : Telling) (refuted : Option Verdict) (input : Input) (bytes : List ℕ) (status : Status) → IsTraced telling refuted input bytes status → Tells status
+traced_tells telling None input bytes status (trace, e) = subst Tells (sym e) tt
+traced_tells telling (Some verdict) input bytes status (line, e) = subst Tells (sym e) tt
 
 answer_tells : (verb : Verb) (read : Result Input TextFault) (bytes : List ℕ) (status : Status) → IsAnswer verb read bytes status → Tells status
 answer_tells verb (Err fault) bytes status (line, e) = subst Tells (sym e) tt
-answer_tells Trace (Ok input) bytes status is = traced_tells (find refutes (verdicts input.tree)) input bytes status is
+answer_tells (Trace telling) (Ok input) bytes status is = traced_tells telling (find refutes (verdicts input.tree)) input bytes status is
 answer_tells Listed (Ok input) bytes status (text, e) = subst Tells (sym e) tt
 answer_tells (Check selection) (Ok input) bytes status (text, e) = subst Tells (sym e) (by (list_any refutes (verdicts input.tree)))
   where
@@ -92,6 +93,6 @@ pub handed : (verb : Verb) (output : List ℕ → Status → Type 0) (old new : 
     → Grows old new → OnOk result (pending ≡ []) → Answers verb output old (with_after new pending) result → Answers verb output old new result
 handed verb output old new pending (Ok status) grows all (bytes, is, e) = (bytes, is, sym (with_after-none new pending all) ∙ e)
 handed verb output old new pending (Err io.Failed) grows all front = front_handed output old new pending grows front
-handed Trace output old new pending (Err io.NoMemory) grows all e = none_handed old new pending grows e
+handed (Trace telling) output old new pending (Err io.NoMemory) grows all e = none_handed old new pending grows e
 handed Listed output old new pending (Err io.NoMemory) grows all e = none_handed old new pending grows e
 handed (Check selection) output old new pending (Err io.NoMemory) grows all front = front_handed output old new pending grows front

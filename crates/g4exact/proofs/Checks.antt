@@ -52,7 +52,7 @@ counts_stopped selection h old mid new lines counts =
 
 -- where memory is wanting before the first byte, nothing was written, which is a front of any output
 pub nothing_written : (verb : Verb) (read : Result Input TextFault) (old : Option (List ℕ)) → Wants verb (IsAnswer verb read) old old
-nothing_written Trace read old = refl
+nothing_written (Trace telling) read old = refl
 nothing_written Listed read old = refl
 nothing_written (Check selection) (Err fault) old = (fault_line fault, Faulty, (refl, refl), front-nothing old (fault_line fault))
 nothing_written (Check selection) (Ok input) old = (check_text selection input.tree, checked_status input.tree, (refl, refl), front-nothing old (check_text selection input.tree))

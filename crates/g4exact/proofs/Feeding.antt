@@ -2,7 +2,7 @@
 use Rattle.std.proofs.Common.{◌≡◌, ℕ, ◌+◌, ◌<◌, ◌≤◌, List, [], ◌++◌, length, Option, Result, Ok, Err, IfOk, OnOk, OnErr, refl, sym, ap, ◌∙◌, arith, append_assoc, append-nil, length-append}
 use Rattle.std.specs.Io.KnownBytes.{IsAtEnd}
 use Rattle.gx_io.specs.Bytes.{with_before}
-use Rattle.gx_io.specs.declared.error.IoError.{IoError}
+use Rattle.gx_num.specs.declared.memory.NoMemory.{NoMemory}
 use Rattle.gx_io.proofs.Joined.{with_before-twice, with_before-nothing}
 use Rattle.gx_fraction.specs.Fraction.{Fraction}
 use Rattle.gx_gather.specs.declared.fault.TextFault.{TextFault}
@@ -65,19 +65,18 @@ from_nothing left = ([], omega arith, sym (with_before-nothing left))
 -- what a fed reader gives at the end
 module _ (old new : Option (List ℕ)) (first reader : ReaderState)
     (fed : (text : List ℕ) × IsReadWhole old new text × ((later : List ℕ) → read_as reader later ≡ read_as first (text ++ later))) where
-  pub finished : (grid : Fraction) (result : Result (Result Input TextFault) IoError) → Begins grid first → IfOk result (λ read. read_as reader [] ≡ answered read)
-      → IfOk result (λ read. (text : List ℕ) × IsReadWhole old new text × (reading grid text ≡ read))
-  finished grid (Ok read) begins is = (fed.0, fed.1, read_whole grid first reader fed.0 read begins fed.2 is)
-  finished grid (Err error) begins is = tt
+  pub finished : (grid : Fraction) (read : Result Input TextFault) → Begins grid first → read_as reader [] ≡ answered read
+      → (text : List ℕ) × IsReadWhole old new text × (reading grid text ≡ read)
+  finished grid read begins is = (fed.0, fed.1, read_whole grid first reader fed.0 read begins fed.2 is)
 
-  pub finished_from : (result : Result (Result Input TextFault) IoError) → OnErr result (IsReadFrom old new)
-  finished_from (Ok read) = tt
-  finished_from (Err error) = (fed.0, fed.1.most, fed.1.taken)
+  pub finished_from : IsReadFrom old new
+  finished_from = (fed.0, fed.1.most, fed.1.taken)
 
--- what holds anyway, where there is a value
-pub at_ok : {T E P : Type 0} (result : Result T E) → P → OnOk result P
-at_ok (Ok value) p = p
-at_ok (Err error) p = tt
+-- a text that was fed at once is what was read
+pub finished_text : (grid : Fraction) (first reader : ReaderState) (text : List ℕ) (result : Result (Result Input TextFault) NoMemory) → Begins grid first
+    → ((later : List ℕ) → read_as reader later ≡ read_as first (text ++ later)) → IfOk result (λ read. read_as reader [] ≡ answered read) → IfOk result (λ read. reading grid text ≡ read)
+finished_text grid first reader text (Ok read) begins reads is = read_whole grid first reader text read begins reads is
+finished_text grid first reader text (Err error) begins reads is = tt
 
 pub err_same : {T E : Type 0} (a b : E) → ◌≡◌ {A = Result T E} (Err a) (Err b) → a ≡ b
 err_same a b e = cc

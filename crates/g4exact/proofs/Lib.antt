@@ -1,5 +1,6 @@
 pub mod Answered
 pub mod Checks
+mod Counted
 pub mod Feeding
 pub mod Paths
 pub mod Runs

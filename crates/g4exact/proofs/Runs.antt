@@ -17,9 +17,13 @@ use Rattle.gx_reader.specs.declared.reader.TheConstants.{MAX_TEXT}
 use Rattle.g4exact.specs.declared.outcome.Status.{Status}
 use Rattle.g4exact.specs.declared.outcome.Status.TheVariants.{Clean, Refuted, TextFault as Faulty, WordsFault, ReadFault, WriteFault, NoMemory}
 use Rattle.g4exact.specs.declared.command.Command.{Command}
-use Rattle.g4exact.specs.declared.command.Command.TheVariants.{Reading}
+use Rattle.g4exact.specs.declared.command.Command.TheVariants.{Reading, Sample}
 use Rattle.g4exact.specs.declared.command.Verb.{Verb}
 use Rattle.g4exact.specs.declared.command.Verb.TheVariants.{Trace}
+use Rattle.g4exact.specs.declared.command.Telling.{Telling}
+use Rattle.g4exact.specs.declared.command.Telling.TheVariants.{Summary}
+use Rattle.gx_canon.specs.Canonical.{millimetre}
+use Rattle.gx_sample.specs.Text.{sample_text}
 use Rattle.g4exact.specs.Output.{IsOutput, IsAnswer, IsWritten}
 use Rattle.g4exact.specs.Ends.{WritesAll, Ends, IsTold, Blames, HasFailed, RunsTo, IsReadOut, IsReadWhole, most_read}
 
@@ -83,6 +87,24 @@ reads_all left left' taken read = reads_told left left' taken read.taken read.mo
 pub same_output : (verb : Verb) (grid : Fraction) (text : List ℕ) (read : Result Input TextFault) (old new : Option (List ℕ)) (status : Status) → reading grid text ≡ read
     → Ends (Some (Reading verb grid)) (IsAnswer verb read) old new status → Ends (Some (Reading verb grid)) (IsOutput (Some (Reading verb grid)) text) old new status
 same_output verb grid text read old new status e h = subst (λ answer. Ends (Some (Reading verb grid)) (IsAnswer verb answer) old new status) (sym e) h
+
+-- a sample's text is traced like one that was read
+sample_ends : (number : ℕ) (telling : Telling) (grid : Fraction) (output : List ℕ → Status → Type 0) (old new : Option (List ℕ)) (status : Status)
+    → Ends (Some (Reading (Trace telling) grid)) output old new status → Ends (Some (Sample number)) output old new status
+sample_ends number telling grid output old new Clean e = e
+sample_ends number telling grid output old new Refuted e = e
+sample_ends number telling grid output old new Faulty e = e
+sample_ends number telling grid output old new WordsFault e = e
+sample_ends number telling grid output old new ReadFault e = e
+sample_ends number telling grid output old new WriteFault e = e
+sample_ends number telling grid output old new NoMemory e = e
+
+pub sample_output : (number : ℕ) (read : Result Input TextFault) (old new : Option (List ℕ)) (status : Status) → reading millimetre (sample_text number) ≡ read
+    → Ends (Some (Reading (Trace (Summary number)) millimetre)) (IsAnswer (Trace (Summary number)) read) old new status
+    → Ends (Some (Sample number)) (IsAnswer (Trace (Summary number)) (reading millimetre (sample_text number))) old new status
+sample_output number read old new status e ends =
+    sample_ends number (Summary number) millimetre (IsAnswer (Trace (Summary number)) (reading millimetre (sample_text number))) old new status
+    (subst (λ answer. Ends (Some (Reading (Trace (Summary number)) millimetre)) (IsAnswer (Trace (Summary number)) answer) old new status) (sym e) ends)
 
 -- a source that was read out is so at each status
 pub read_out : (old new : Option (List ℕ)) (text : List ℕ) (status : Status) → IsReadWhole old new text → new ≡ option_map (drop most_read) old → IsReadOut old new status

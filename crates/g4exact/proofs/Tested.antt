@@ -1,5 +1,5 @@
 -- How the tests of rays add up.
-use Rattle.std.proofs.Common.{◌≡◌, ℕ, suc, zero, ◌+◌, ◌≤◌, List, [], ◌∷◌, length, drop, Option, None, Some, Result, Ok, refl, sym, ap, ◌∙◌, subst, arith}
+use Rattle.std.proofs.Common.{◌≡◌, ℕ, suc, zero, ◌+◌, ◌≤◌, List, [], ◌∷◌, length, drop, Option, None, Some, Result, Ok, Err, refl, sym, ap, ◌∙◌, subst, arith}
 use Rattle.std.specs.Prelude.{slice_get, find}
 use Rattle.std.specs.List.{AllByRecursion}
 use Rattle.std.proofs.lemmas.List.{drop_all}
@@ -11,7 +11,17 @@ use Rattle.gx_check.specs.declared.verdict.Verdict.{Verdict}
 use Rattle.gx_link.specs.declared.input.Input.{Input}
 use Rattle.gx_navigator.specs.Tests.{IsTestCount}
 use Rattle.gx_navigator.proofs.Counted.{tested}
-use Rattle.g4exact.specs.Tests.{AreTestCounts, RisesBy, AreTested}
+use Rattle.gx_check.specs.Laws.{CleanWhereUnrefuted}
+use Rattle.gx_check.specs.Verdicts.{verdicts, refutes}
+use Rattle.gx_gather.specs.declared.fault.TextFault.{TextFault}
+use Rattle.gx_sealed.specs.Sealed.{IsSealed}
+use Rattle.g4exact.specs.declared.command.Verb.{Verb}
+use Rattle.g4exact.specs.declared.command.Verb.TheVariants.{Trace, Check, List as Listed}
+use Rattle.g4exact.specs.declared.outcome.Status.{Status}
+use Rattle.g4exact.specs.declared.outcome.Status.TheVariants.{Clean, Refuted, TextFault as Faulty, WordsFault, ReadFault, WriteFault, NoMemory}
+use Rattle.g4exact.specs.Output.{IsTraced, IsAnswer}
+use Rattle.g4exact.specs.Tests.{AreTestCounts, RisesBy, AreTested, AnswersTested}
+use Rattle.g4exact.proofs.Answered.{Tells, traced_tells}
 use Rattle.g4exact.proofs.Traces.{all_after, drop_get}
 
 -- each of the rays has a count
@@ -60,12 +70,64 @@ tested_whole h rays i old new so_far done =
     let none : AreTestCounts h (drop i rays) 0 = rw (drop_all i rays done) refl in
     (so_far.count + 0, so_far.goes_on 0 none, omega (arith, so_far.is))
 
--- nothing was tested yet
-pub untested : (h : Hierarchy) → IsTree h → (rays : List Ray) → AllByRecursion IsTraceable rays → (old : ℕ) (whole : Type 0) → (whole → ⊥) → RisesBy h rays old old whole
-untested h tree rays all old whole never =
-    let n = tested_all h tree rays all in
-    (n.0, n.1, omega arith, λ all. absurd (never all))
+-- ---- by the status
 
-pub none_tested : (input : Input) → IsTree input.tree → AllByRecursion IsTraceable input.rays → (refuted : Option Verdict) (old : ℕ) (whole : Type 0) → (whole → ⊥) → AreTested refuted input old old whole
-none_tested input tree all (Some verdict) old whole never = refl
-none_tested input tree all None old whole never = untested input.tree tree input.rays all old whole never
+module _ (input : Input) (h : Hierarchy) (same : h ≡ input.tree) (old new : ℕ) (status : Status) where
+  pub reports_tested : CleanWhereUnrefuted → IsSealed h → RisesBy h input.rays old new status → AreTested (find refutes (verdicts input.tree)) input old new status
+  reports_tested law kept is =
+      subst (λ (t : Hierarchy). AreTested (find refutes (verdicts t)) input old new status) same
+      (subst (λ o. AreTested o input old new status) (sym ((law h kept.tree).0 kept.clean))
+      (subst (λ (t : Hierarchy). RisesBy t input.rays old new status) same is))
+
+  pub refuted_tested : (verdict : Verdict) → find refutes (verdicts input.tree) ≡ Some verdict → new ≡ old → AreTested (find refutes (verdicts input.tree)) input old new status
+  refuted_tested verdict found e = subst (λ o. AreTested o input old new status) (sym found) e
+
+-- no test is made for the line of a fault
+pub fault_tested : (verb : Verb) (fault : TextFault) (old : ℕ) (status : Status) → AnswersTested verb (Err fault) old old status
+fault_tested (Trace telling) fault old status = refl
+fault_tested (Check selection) fault old status = refl
+fault_tested Listed fault old status = refl
+
+-- no test was made before memory was wanting
+pub memory_tested : (refuted : Option Verdict) (input : Input) (old : ℕ) → AreTested refuted input old old NoMemory
+memory_tested None input old = refl
+memory_tested (Some verdict) input old = refl
+
+pub memory_answers : (verb : Verb) (read : Result Input TextFault) (old : ℕ) → AnswersTested verb read old old NoMemory
+memory_answers (Trace telling) (Ok input) old = memory_tested (find refutes (verdicts input.tree)) input old
+memory_answers (Trace telling) (Err fault) old = refl
+memory_answers (Check selection) read old = refl
+memory_answers Listed read old = refl
+
+-- nor before a read failed
+pub read_answers : (verb : Verb) (read : Result Input TextFault) (old : ℕ) → AnswersTested verb read old old ReadFault
+read_answers (Trace telling) (Ok input) old = by (find refutes (verdicts input.tree))
+  where
+    by : (refuted : Option Verdict) → AreTested refuted input old old ReadFault
+    by None = refl
+    by (Some verdict) = refl
+read_answers (Trace telling) (Err fault) old = refl
+read_answers (Check selection) read old = refl
+read_answers Listed read old = refl
+
+-- what was told whole may be handed on in part
+pub answers_stopped : (verb : Verb) (read : Result Input TextFault) (bytes : List ℕ) (old new : ℕ) (status : Status) → IsAnswer verb read bytes status → AnswersTested verb read old new status → AnswersTested verb read old new WriteFault
+answers_stopped (Trace telling) (Ok input) bytes old new status is tested = by (find refutes (verdicts input.tree)) is tested
+  where
+    no_more : (status : Status) → Tells status → RisesBy input.tree input.rays old new status → RisesBy input.tree input.rays old new WriteFault
+    no_more Clean t (n, counts, e) = (n, counts, omega (arith, e))
+    no_more Refuted t (n, counts, e) = (n, counts, omega (arith, e))
+    no_more Faulty t (n, counts, e) = (n, counts, omega (arith, e))
+    no_more WordsFault t rises = absurd t
+    no_more ReadFault t rises = absurd t
+    no_more WriteFault t rises = absurd t
+    no_more NoMemory t rises = absurd t
+
+    by : (refuted : Option Verdict) → IsTraced telling refuted input bytes status → AreTested refuted input old new status → AreTested refuted input old new WriteFault
+    by None is tested = no_more status (traced_tells telling None input bytes status is) tested
+    by (Some verdict) is tested = tested
+answers_stopped (Trace telling) (Err fault) bytes old new status is tested = tested
+answers_stopped (Check selection) (Ok input) bytes old new status is tested = tested
+answers_stopped (Check selection) (Err fault) bytes old new status is tested = tested
+answers_stopped Listed (Ok input) bytes old new status is tested = tested
+answers_stopped Listed (Err fault) bytes old new status is tested = tested

@@ -27,7 +27,7 @@ use Rattle.gx_link.specs.declared.input.Input.{Input}
 use Rattle.g4exact.specs.declared.outcome.Status.{Status}
 use Rattle.g4exact.specs.declared.command.Verb.TheVariants.{Trace}
 use Rattle.g4exact.specs.Ends.{Answers}
-use Rattle.g4exact.specs.Tests.{RisesBy, AreTested}
+use Rattle.g4exact.specs.declared.command.Telling.{Telling}
 use Rattle.g4exact.specs.Output.{ray_text, IsTrace, IsReported, IsRefuted, IsTraced, IsWritten}
 
 -- the line of each row, and the rows that have one
@@ -127,29 +127,18 @@ items_of_report h (row ∷ rows) = ap (λ rest. row_text h row ++ rest) (items_o
 pub lines_of_report : (h : Hierarchy) (texts : Given → List ℕ) (rows : List Row) → texts ≡ texts_in h → items_of texts rows ≡ flat_map (row_text h) rows
 lines_of_report h texts rows e = ap (λ f. items_of f rows) e ∙ items_of_report h rows
 
-module _ (input : Input) (h : Hierarchy) (same : h ≡ input.tree) where
-  -- the reports are written where the hierarchy is clean
+module _ (telling : Telling) (input : Input) (h : Hierarchy) (same : h ≡ input.tree) where
+  -- what is told of reports is written where the hierarchy is clean
   pub reports_written : (old new : Option (List ℕ)) (result : Result Status IoError) → CleanWhereUnrefuted → IsSealed h
-      → Answers Trace (IsReported h input.rays) old new result → Answers Trace (IsWritten Trace input) old new result
+      → Answers (Trace telling) (IsReported telling h input.rays) old new result → Answers (Trace telling) (IsWritten (Trace telling) input) old new result
   reports_written old new result law kept is =
-      let none = (law h kept.tree).0 kept.clean in
-      subst (λ (t : Hierarchy). Answers Trace (IsTraced (find refutes (verdicts t)) input) old new result) same
-      (subst (λ o. Answers Trace (IsTraced o input) old new result) (sym none)
-      (subst (λ (t : Hierarchy). Answers Trace (IsReported t input.rays) old new result) same is))
-
-  pub reports_tested : (old new : ℕ) (whole : Type 0) → CleanWhereUnrefuted → IsSealed h → RisesBy h input.rays old new whole → AreTested (find refutes (verdicts input.tree)) input old new whole
-  reports_tested old new whole law kept is =
-      let none = (law h kept.tree).0 kept.clean in
-      subst (λ (t : Hierarchy). AreTested (find refutes (verdicts t)) input old new whole) same
-      (subst (λ o. AreTested o input old new whole) (sym none)
-      (subst (λ (t : Hierarchy). RisesBy t input.rays old new whole) same is))
+      subst (λ (t : Hierarchy). Answers (Trace telling) (IsTraced telling (find refutes (verdicts t)) input) old new result) same
+      (subst (λ o. Answers (Trace telling) (IsTraced telling o input) old new result) (sym ((law h kept.tree).0 kept.clean))
+      (subst (λ (t : Hierarchy). Answers (Trace telling) (IsReported telling t input.rays) old new result) same is))
 
   -- and else the first verdict that refutes it
-  module _ (verdict : Verdict) (found : find refutes (verdicts input.tree) ≡ Some verdict) where
-    pub refuted_written : (old new : Option (List ℕ)) (result : Result Status IoError) → Answers Trace (IsRefuted h verdict) old new result → Answers Trace (IsWritten Trace input) old new result
-    refuted_written old new result is =
-        subst (λ o. Answers Trace (IsTraced o input) old new result) (sym found)
-        (subst (λ (t : Hierarchy). Answers Trace (IsRefuted t verdict) old new result) same is)
-
-    pub refuted_tested : (old new : ℕ) (whole : Type 0) → new ≡ old → AreTested (find refutes (verdicts input.tree)) input old new whole
-    refuted_tested old new whole e = rw found e
+  pub refuted_written : (verdict : Verdict) → find refutes (verdicts input.tree) ≡ Some verdict → (old new : Option (List ℕ)) (result : Result Status IoError)
+      → Answers (Trace telling) (IsRefuted h verdict) old new result → Answers (Trace telling) (IsWritten (Trace telling) input) old new result
+  refuted_written verdict found old new result is =
+      subst (λ o. Answers (Trace telling) (IsTraced telling o input) old new result) (sym found)
+      (subst (λ (t : Hierarchy). Answers (Trace telling) (IsRefuted t verdict) old new result) same is)

@@ -1,11 +1,10 @@
-ghost use Rattle.std.specs.Prelude.{◌≡◌, ℕ, [], Some, Ok, OnOk};
+ghost use Rattle.std.specs.Prelude.{◌≡◌, ℕ, [], Some, OnOk};
 ghost use Rattle.gx_fraction.specs.Fraction.{Fraction};
 ghost use Rattle.gx_io.specs.Bytes.{with_after};
 ghost use Rattle.g4exact.specs.declared.command.Command.TheVariants.{Reading};
 ghost use Rattle.g4exact.specs.Output.{IsAnswer};
 ghost use Rattle.g4exact.specs.Ends.{Ends, Blames, Answers, HasIoCause};
-ghost use Rattle.g4exact.specs.Tests.{AnswersTested};
-ghost use Rattle.g4exact.specs.declared.outcome.Status.TheVariants.{Clean};
+ghost use Rattle.g4exact.specs.Tests.{AnswersTested, status_of};
 
 use crate::check::write_check;
 use crate::command::Verb;
@@ -32,7 +31,7 @@ pub fn answer<K: Sink, T: Ledger, Q: Ledger>(
 ) -> Status
     ensures output { (grid : Fraction) → Ends (Some (Reading verb grid)) (IsAnswer verb read) (K.written sink.old) (K.written sink.new) result }
     ensures blames { (source : ℕ) → Blames source source (K.faults sink.old) (K.faults sink.new) result }
-    ensures tests { AnswersTested verb read tests.old tests.new (result ≡ Clean) }
+    ensures tests { AnswersTested verb read tests.old tests.new result }
     ensures reads { reads.new ≡ reads.old }
 {
     let Ok(buffer) = Buffer::new(alloc) else {
@@ -64,7 +63,7 @@ fn answer_lent<'a, K: Sink, L: Loan, T: Ledger, Q: Ledger>(
     ensures same_reference { result.1.ghost_name ≡ sink.entry.ghost_name }
     ensures output { Answers verb (IsAnswer verb read) (K.written sink.old) (K.written result.1.now) result.0 }
     ensures cause { HasIoCause (K.faults sink.old) (K.faults result.1.now) result.0 }
-    ensures tests { AnswersTested verb read tests.old tests.new (result.0 ≡ Ok Clean) }
+    ensures tests { AnswersTested verb read tests.old tests.new (status_of result.0) }
     ensures reads { reads.new ≡ reads.old }
 {
     let lent: Lent<'a, K, L> = Lent {
@@ -90,7 +89,7 @@ fn answer_and_flush<K: Sink + Drop, T: Ledger, Q: Ledger>(
     ensures output { Answers verb (IsAnswer verb read) (K.written buffered.old.inner) (with_after (K.written buffered.new.inner) buffered.new.buffer) result }
     ensures all { OnOk result (buffered.new.buffer ≡ []) }
     ensures cause { HasIoCause (K.faults buffered.old.inner) (K.faults buffered.new.inner) result }
-    ensures tests { AnswersTested verb read tests.old tests.new (result ≡ Ok Clean) }
+    ensures tests { AnswersTested verb read tests.old tests.new (status_of result) }
     ensures reads { reads.new ≡ reads.old }
 {
     let status = write_answer(alloc, verb, read, buffered, tests, reads)?;
@@ -108,7 +107,7 @@ fn write_answer<K: Sink, T: Ledger, Q: Ledger>(
 ) -> Result<Status, IoError>
     ensures output { Answers verb (IsAnswer verb read) (K.written sink.old) (K.written sink.new) result }
     ensures cause { HasIoCause (K.faults sink.old) (K.faults sink.new) result }
-    ensures tests { AnswersTested verb read tests.old tests.new (result ≡ Ok Clean) }
+    ensures tests { AnswersTested verb read tests.old tests.new (status_of result) }
     ensures reads { reads.new ≡ reads.old }
 {
     match read {

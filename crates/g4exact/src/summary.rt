@@ -1,14 +1,12 @@
-ghost use Rattle.std.specs.Prelude.{◌≡◌, ◌≤◌, ◌+◌, ◌-◌, ◌^◌, ℕ, min, length, All, EachIndex, Ok};
+ghost use Rattle.std.specs.Prelude.{◌≡◌, ◌≤◌, ◌+◌, ◌-◌, ◌^◌, ℕ, min, length, EachIndex};
 ghost use Rattle.gx_tree.specs.Hierarchy.{instances};
-ghost use Rattle.gx_gather.specs.Rays.{IsTraceable};
 ghost use Rattle.gx_sealed.specs.Sealed.{IsSealed};
 ghost use Rattle.g4exact.specs.declared.command.Verb.TheVariants.{Trace};
 ghost use Rattle.g4exact.specs.declared.command.Telling.TheVariants.{Summary as Summed};
-ghost use Rattle.g4exact.specs.declared.outcome.Status.TheVariants.{Clean};
 ghost use Rattle.g4exact.specs.Output.{AreRows, IsReported};
 ghost use Rattle.gx_sample_clean.specs.Sample.{instances_of_all};
 ghost use Rattle.g4exact.specs.Ends.{Answers, HasIoCause};
-ghost use Rattle.g4exact.specs.Tests.{RisesBy};
+ghost use Rattle.g4exact.specs.Tests.{AreTestCounts, RisesBy, status_of};
 
 use crate::outcome::Status;
 use gx_gather::Rays;
@@ -76,7 +74,7 @@ fn count_rows<L: Ledger, T: Ledger, Q: Ledger>(
     requires kept { IsSealed sealed.now }
     requires room { EachIndex sealed.now.volumes (λ v. length (instances sealed.now v) ≤ scratch.old) }
     ensures rows { (n : ℕ) × AreRows sealed.now rays.now n × (result ≡ min n (2 ^ 64 - 1)) }
-    ensures tests { RisesBy sealed.now rays.now tests.old tests.new Unit }
+    ensures tests { (n : ℕ) × AreTestCounts sealed.now rays.now n × (tests.new ≡ tests.old + n) }
     ensures reads { reads.new ≡ reads.old }
 {
     let mut rows: RowCount<L> = RowCount {
@@ -111,11 +109,9 @@ pub fn write_summary<K: Sink, T: Ledger, Q: Ledger>(
     tests: &mut Steps<T>,
     reads: &mut Steps<Q>,
 ) -> Result<Status, IoError>
-    requires kept { IsSealed sealed.now }
-    requires rays { All IsTraceable rays.now }
     ensures output { Answers (Trace (Summed number)) (IsReported (Summed number) sealed.now rays.now) (K.written sink.old) (K.written sink.new) result }
     ensures cause { HasIoCause (K.faults sink.old) (K.faults sink.new) result }
-    ensures tests { RisesBy sealed.now rays.now tests.old tests.new (result ≡ Ok Clean) }
+    ensures tests { RisesBy sealed.now rays.now tests.old tests.new (status_of result) }
     ensures reads { reads.new ≡ reads.old }
 {
     let mut scratch = Scratch::new(alloc, sealed.most_daughters())?;

@@ -1,10 +1,9 @@
-ghost use Rattle.std.specs.Prelude.{◌≡◌, ◌≤◌, ℕ, List, length, find, All, EachIndex, Some, Ok};
+ghost use Rattle.std.specs.Prelude.{◌≡◌, ◌≤◌, ℕ, List, length, find, EachIndex, Some};
 ghost use Rattle.gx_io.specs.Bytes.{HasCause, Writes};
 ghost use Rattle.gx_path.specs.Report.{row_of};
 ghost use Rattle.gx_tree.specs.Hierarchy.{instances};
 ghost use Rattle.gx_sealed.specs.Sealed.{IsSealed};
 ghost use Rattle.gx_check.specs.Verdicts.{verdicts, refutes};
-ghost use Rattle.gx_gather.specs.Rays.{IsTraceable};
 ghost use Rattle.gx_print.specs.Range.{is_path};
 ghost use Rattle.gx_print.specs.Texts.{row_text};
 ghost use Rattle.g4exact.specs.declared.command.Verb.TheVariants.{Trace};
@@ -12,8 +11,7 @@ ghost use Rattle.g4exact.specs.declared.command.Telling.{Telling};
 ghost use Rattle.g4exact.specs.declared.command.Telling.TheVariants.{Rows};
 ghost use Rattle.g4exact.specs.Output.{IsTrace, IsReported, IsRefuted, IsWritten};
 ghost use Rattle.g4exact.specs.Ends.{Answers, HasIoCause};
-ghost use Rattle.g4exact.specs.Tests.{Rises, RisesBy, AreTested};
-ghost use Rattle.g4exact.specs.declared.outcome.Status.TheVariants.{Clean};
+ghost use Rattle.g4exact.specs.Tests.{Rises, RisesBy, AreTested, status_of};
 
 use crate::command::Telling;
 use crate::outcome::Status;
@@ -142,10 +140,9 @@ fn write_rows<K: Sink, T: Ledger, Q: Ledger>(
     tests: &mut Steps<T>,
     reads: &mut Steps<Q>,
 ) -> Result<Status, IoError>
-    requires { All IsTraceable rays.now }
     ensures output { Answers (Trace Rows) (IsReported Rows sealed.now rays.now) (K.written sink.old) (K.written sink.new) result }
     ensures cause { HasIoCause (K.faults sink.old) (K.faults sink.new) result }
-    ensures tests { RisesBy sealed.now rays.now tests.old tests.new (result ≡ Ok Clean) }
+    ensures tests { RisesBy sealed.now rays.now tests.old tests.new (status_of result) }
     ensures reads { reads.new ≡ reads.old }
 {
     let mut scratch = Scratch::new(alloc, sealed.most_daughters())?;
@@ -163,11 +160,9 @@ fn write_reports<K: Sink, T: Ledger, Q: Ledger>(
     tests: &mut Steps<T>,
     reads: &mut Steps<Q>,
 ) -> Result<Status, IoError>
-    requires kept { IsSealed sealed.now }
-    requires rays { All IsTraceable rays.now }
     ensures output { Answers (Trace telling) (IsReported telling sealed.now rays.now) (K.written sink.old) (K.written sink.new) result }
     ensures cause { HasIoCause (K.faults sink.old) (K.faults sink.new) result }
-    ensures tests { RisesBy sealed.now rays.now tests.old tests.new (result ≡ Ok Clean) }
+    ensures tests { RisesBy sealed.now rays.now tests.old tests.new (status_of result) }
     ensures reads { reads.new ≡ reads.old }
 {
     match telling {
@@ -202,15 +197,12 @@ pub fn write_trace<K: Sink, T: Ledger, Q: Ledger>(
 ) -> Result<Status, IoError>
     ensures output { Answers (Trace telling) (IsWritten (Trace telling) input) (K.written sink.old) (K.written sink.new) result }
     ensures cause { HasIoCause (K.faults sink.old) (K.faults sink.new) result }
-    ensures tests { AreTested (find refutes (verdicts input.tree)) input tests.old tests.new (result ≡ Ok Clean) }
+    ensures tests { AreTested (find refutes (verdicts input.tree)) input tests.old tests.new (status_of result) }
     ensures reads { reads.new ≡ reads.old }
 {
     // A clean hierarchy has no verdict that refutes it.
     clean_where_unrefuted();
     let Input { tree, rays } = input;
-    // What each hierarchy and all rays keep is known from here on.
-    let _ = tree.world();
-    let _ = rays.count();
     match Sealed::new(alloc, tree) {
         Ok(sealed) => write_reports(alloc, telling, &sealed, &rays, sink, tests, reads),
         Err(SealError::Refuted { tree, verdict }) => write_refuted(&tree, &verdict, sink),

@@ -12,6 +12,6 @@ pub print_verdict-requires : goal.print_verdict-requires
 print_verdict-requires g c = found_holds (λ v. IsTrue (is_in_range c.args.tree.now v)) refutes (verdicts c.args.tree.now) c.args.verdict.now (verdicts-in_range c.args.tree.now) c.requires
 
 pub returns-in_err-print_verdict-clause-output : goal.returns-in_err-print_verdict-clause-output
-returns-in_err-print_verdict-clause-output g c =
+returns-in_err-print_verdict-clause-output g c = λ telling.
     let p = err_from_is_err_and c.from_residual.result c.from_residual.ensures.1 in
     rw (p.1, p.2) (verdict_line c.args.tree.now c.args.verdict.now, Refuted, (refl, refl), c.in_err-print_verdict.ensures.bytes.front)
