@@ -1,6 +1,6 @@
 pub mod Answered
 pub mod Checks
-mod Counted
+mod RowCounts
 pub mod Feeding
 pub mod Paths
 pub mod Runs

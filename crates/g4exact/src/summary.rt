@@ -1,4 +1,4 @@
-ghost use Rattle.std.specs.Prelude.{◌≡◌, ◌≤◌, ◌+◌, ◌-◌, ◌^◌, ℕ, min, length, EachIndex};
+ghost use Rattle.std.specs.Prelude.{◌≡◌, ◌≤◌, ◌<◌, ◌+◌, ◌-◌, ◌^◌, ℕ, min, length, EachIndex};
 ghost use Rattle.gx_tree.specs.Hierarchy.{instances};
 ghost use Rattle.gx_sealed.specs.Sealed.{IsSealed};
 ghost use Rattle.g4exact.specs.declared.command.Verb.TheVariants.{Trace};

@@ -3,5 +3,5 @@ use Rattle.g4exact.specs.Commands.{number_up_to, greatest_sample}
 use Rattle.g4exact.proofs.command.number_from.Given as goal
 
 -- no greater number is the word's
-abbrev pub invariant-while : goal.invariant-while
-invariant-while l = number_up_to l.number l.word ≡ number_up_to greatest_sample l.word
+abbrev pub invariant-loop-number : goal.invariant-loop-number
+invariant-loop-number l = number_up_to l.number l.word ≡ number_up_to greatest_sample l.word

@@ -5,7 +5,7 @@ pub returns-in-Sample-clause-output : goal.returns-in-Sample-clause-output
 returns-in-Sample-clause-output g c =
     let text = told (g.S.Source.left c.args.source.now) in
     let out = c.sample.ensures.output text.0 in
-    (text.0, text.1, out.0, out.1)
+    rw c.in-Sample.is (text.0, text.1, out.0, out.1)
 
 pub returns-in-Sample-clause-blames : goal.returns-in-Sample-clause-blames
 returns-in-Sample-clause-blames g c = c.sample.ensures.blames _

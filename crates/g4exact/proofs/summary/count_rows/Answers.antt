@@ -1,7 +1,28 @@
 use Rattle.std.proofs.Common.{arith, ◌≤◌, ◌≡◌, ◌∙◌, refl, sym, subst, length}
 use Rattle.std.specs.Prelude.{EachIndex}
 use Rattle.gx_tree.specs.Hierarchy.{instances}
-use Rattle.g4exact.proofs.Counted.{counted_none, counted_more, counted_whole, never_fails}
+use Rattle.g4exact.proofs.RowCounts.{counted_none, counted_more, counted_whole, never_fails}
 use Rattle.g4exact.proofs.Tested.{tested_none, tested_more, tested_whole}
 use Rattle.g4exact.proofs.summary.count_rows.Goals as goal
 
+pub loop-i-init : goal.loop-i-init
+loop-i-init g c = record {
+  counted = counted_none c.args.sealed.now c.args.rays.now;
+  tested = tested_none c.args.sealed.now c.args.rays.now _;
+  room = c.requires.room;
+  reads = refl;
+}
+
+pub loop-i-preserved : goal.loop-i-preserved
+loop-i-preserved g c =
+    let h = c.args.sealed.now in
+    let rays = c.args.rays.now in
+    let inv = c.loop-i.invariant in
+    let traced = c.trace_ray.ensures in
+    record {
+      counted = counted_more h rays c.loop-i.i c.loop-i.rows inv.counted c.ray.result c.ray.ensures.ray traced.report.0 traced.report.1 c.trace_ray.new.rows
+          (never_fails c.trace_ray.result traced.cause _ traced.report.2.all);
+      tested = tested_more h rays c.loop-i.i _ _ _ inv.tested c.ray.result c.ray.ensures.ray traced.tests.0 traced.tests.1 (never_fails c.trace_ray.result traced.cause _ traced.tests.3);
+      room = subst (λ s. EachIndex h.volumes (λ v. length (instances h v) ≤ s)) (sym traced.room) inv.room;
+      reads = traced.reads ∙ inv.reads;
+    }

@@ -1,7 +1,7 @@
 use Rattle.std.proofs.Common.{◌≡◌, ◌≤◌, length}
 use Rattle.std.specs.Prelude.{EachIndex}
 use Rattle.gx_tree.specs.Hierarchy.{instances}
-use Rattle.g4exact.proofs.Counted.{Counted}
+use Rattle.g4exact.proofs.RowCounts.{Counted}
 use Rattle.g4exact.proofs.Tested.{Tested}
 use Rattle.g4exact.proofs.summary.count_rows.Given as goal
 

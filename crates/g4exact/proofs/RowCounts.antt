@@ -1,6 +1,8 @@
 -- How the rows of rays add up.
-use Rattle.std.proofs.Common.{◌≡◌, ℕ, zero, suc, ◌+◌, ◌≤◌, List, [], ◌∷◌, ◌++◌, length, drop, Option, Some, Result, Ok, Err, refl, sym, ap, ◌∙◌, subst, arith, length-append}
-use Rattle.std.specs.Prelude.{slice_get}
+use Rattle.std.proofs.Common.{◌≡◌, ℕ, zero, suc, ◌+◌, ◌≤◌, List, [], ◌∷◌, ◌++◌, length, drop, Option, Some, Result, Ok, Err, OnOk, refl, sym, ap, ◌∙◌, subst, arith, length-append}
+use Rattle.std.specs.Prelude.{slice_get, sum_by}
+use Rattle.std.specs.List.{range_with_len}
+use Rattle.std.proofs.lemmas.List.Sums.{sum_by_push}
 use Rattle.std.proofs.lemmas.List.{drop_all}
 use Rattle.gx_num.specs.declared.ray.Ray.{Ray}
 use Rattle.gx_io.specs.declared.fault.Failed.{Failed}
@@ -20,10 +22,15 @@ pub record Counted (h : Hierarchy) (rays : List Ray) (i : ℕ) (count : ℕ) : T
 pub counted_none : (h : Hierarchy) (rays : List Ray) → Counted h rays 0 0
 counted_none h rays = record { goes_on = λ rest rows. let same : rest ≡ 0 + rest = omega arith in subst (AreRows h rays) same rows }
 
--- so many marks more
-pub marks-append : (n m : ℕ) → marks n ++ marks m ≡ marks (n + m)
-marks-append zero m = refl
-marks-append (suc n) m = ap (λ l. 0 ∷ l) (marks-append n m)
+-- one mark more
+marks-append : (n m k : ℕ) → k ≡ n + m → marks n ++ marks m ≡ marks k
+marks-append zero m k e = let same : m ≡ k = omega (arith, e) in ap marks same
+marks-append (suc n) m zero e = absurd (omega (arith, e))
+marks-append (suc n) m (suc k) e = ap (λ l. 0 ∷ l) (marks-append n m k (omega (arith, e)))
+
+pub next_mark : (n next : ℕ) → next ≡ n + 1 → Some (marks next) ≡ with_after (Some (marks n)) (0 ∷ [])
+unfolding with_after
+next_mark n next e = ap Some (sym (marks-append n 1 next e))
 
 marks_of_rows : (rows : List Row) → items_of (λ row. 0 ∷ []) rows ≡ marks (length rows)
 marks_of_rows [] = refl
@@ -63,3 +70,17 @@ counted_whole h rays i count so_far done =
     let none : AreRows h (drop i rays) 0 = rw (drop_all i rays done) refl in
     let same : count + 0 ≡ count = omega arith in
     subst (AreRows h rays) same (so_far.goes_on 0 none)
+
+-- ---- daughters of all mothers
+
+range_more : (a n : ℕ) → range_with_len a (suc n) ≡ range_with_len a n ++ (a + n) ∷ []
+range_more a zero = let same : a ≡ a + 0 = omega arith in ap (λ x. x ∷ []) same
+range_more a (suc n) =
+    let same : a + 1 + n ≡ a + suc n = omega arith in
+    ap (λ l. a ∷ l) (range_more (a + 1) n) ∙ ap (λ x. a ∷ (range_with_len (a + 1) n ++ x ∷ [])) same
+
+pub sum_more : (f : ℕ → ℕ) (n : ℕ) → sum_by f (range_with_len 0 (n + 1)) ≡ sum_by f (range_with_len 0 n) + f n
+sum_more f n =
+    let next : n + 1 ≡ suc n = omega arith in
+    let same : 0 + n ≡ n = omega arith in
+    ap (λ k. sum_by f (range_with_len 0 k)) next ∙ ap (sum_by f) (range_more 0 n) ∙ sum_by_push f (range_with_len 0 n) (0 + n) ∙ ap (λ k. sum_by f (range_with_len 0 n) + f k) same
