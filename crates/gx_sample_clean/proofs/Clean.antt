@@ -58,10 +58,10 @@ same_place w h x i j weight below_i above_i below_j above_j = elim (cases_lt i j
 
 -- ---- the cells of the world
 
-row_below : (n k : ℕ) → 1 ≤ n → k < n * n → k / n < n
+pub row_below : (n k : ℕ) → 1 ≤ n → k < n * n → k / n < n
 row_below n k some less = (div-lt_iff_lt-mul some).1 (omega (arith, less))
 
-abbrev cell : ℕ → ℕ → Instance
+abbrev pub cell : ℕ → ℕ → Instance
 cell n k = instance_of (cells n) k
 
 world_cells : (n : ℕ) → instances (sample_tree n) 0 ≡ map (cell n) (range_with_len 0 (n * n))
@@ -84,11 +84,12 @@ cells_disjoint n k l some less p weight one other =
     let rows : n * (k / n) ≡ n * (l / n) = ap (λ (j : ℕ). n * j) row in
     omega (arith, less, column, rows, some)
 
-world_contained : (n : ℕ) → 1 ≤ n → All (IsContainedIn (sample_tree n) 0) (instances (sample_tree n) 0)
-world_contained n some = subst (All (IsContainedIn (sample_tree n) 0)) (sym (world_cells n)) (All-map (IsContainedIn (sample_tree n) 0) (cell n) (range_with_len 0 (n * n)) (λ k d less.
+-- what holds of each cell
+pub each_cell : (n : ℕ) (P : Instance → Type 0) → ((k : ℕ) → k < n * n → P (cell n k)) → All P (instances (sample_tree n) 0)
+each_cell n P holds = subst (All P) (sym (world_cells n)) (All-map P (cell n) (range_with_len 0 (n * n)) (λ k d less.
     let below : k < n * n = omega (arith, length-range_with_len 0 (n * n)) in
     let number : get_or (range_with_len 0 (n * n)) k d < n * n = omega (arith, get_or-range_with_len 0 (n * n) k d below) in
-    cell_contained n _ some number))
+    holds _ number))
 
 world_disjoint : (n : ℕ) → 1 ≤ n → AllPairs (AreDisjoint (sample_tree n)) (instances (sample_tree n) 0)
 world_disjoint n some = subst (AllPairs (AreDisjoint (sample_tree n))) (sym (world_cells n)) (λ k l d less within.
@@ -102,6 +103,10 @@ world_disjoint n some = subst (AllPairs (AreDisjoint (sample_tree n))) (sym (wor
 cell_core : (n : ℕ) → instances (sample_tree n) 1 ≡ instance_of core 0 ∷ []
 unfolding instances_of
 cell_core n = refl
+
+-- what holds of the core
+pub each_core : (n : ℕ) (P : Instance → Type 0) → P (instance_of core 0) → All P (instances (sample_tree n) 1)
+each_core n P holds = subst (All P) (sym (cell_core n)) (All-cons P (instance_of core 0) [] holds (All-nil P))
 
 core_contained : (n : ℕ) → IsContainedIn (sample_tree n) 1 (instance_of core 0)
 core_contained n p weight is =
@@ -119,8 +124,8 @@ core_contained n p weight is =
 -- ---- all volumes
 
 all_contained : (n v : ℕ) → 1 ≤ n → v < 3 → All (IsContainedIn (sample_tree n) v) (instances (sample_tree n) v)
-all_contained n zero some less = world_contained n some
-all_contained n (suc zero) some less = subst (All (IsContainedIn (sample_tree n) 1)) (sym (cell_core n)) (All-cons (IsContainedIn (sample_tree n) 1) (instance_of core 0) [] (core_contained n) (All-nil (IsContainedIn (sample_tree n) 1)))
+all_contained n zero some less = each_cell n (IsContainedIn (sample_tree n) 0) (λ k. cell_contained n k some)
+all_contained n (suc zero) some less = each_core n (IsContainedIn (sample_tree n) 1) (core_contained n)
 all_contained n (suc (suc zero)) some less = All-nil (IsContainedIn (sample_tree n) 2)
 all_contained n (suc (suc (suc v))) some less = absurd (omega (arith, less))
 

@@ -6,4 +6,5 @@ pub mod Points
 pub mod Rows
 pub mod Sample
 pub mod Text
+pub mod Tree
 pub mod Values

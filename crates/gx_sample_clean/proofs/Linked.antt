@@ -33,7 +33,7 @@ uncrowded n few =
     let all : n * n ≤ 4096 = mul-le-mul few few in
     rw (le-ltb 4096 (0 + n * n) (omega (arith, all)), le-ltb 65536 (0 + n * n) (omega (arith, all)), le-ltb 65536 (0 + n * n + 1) (omega (arith, all))) refl
 
-formed : (n : ℕ) → hierarchy_of (sample_volumes n) ≡ Ok (sample_tree n)
+pub formed : (n : ℕ) → hierarchy_of (sample_volumes n) ≡ Ok (sample_tree n)
 unfolding hierarchy_of is_in_itself is_placed is_too_deep is_reached leads max_depth replica_fault
 formed n = refl
 
