@@ -90,7 +90,7 @@ unfoldable pub number_up_to : ℕ → List ℕ → Option ℕ
 number_up_to zero word = None
 number_up_to (suc n) word = if bytes_eq (decimal (suc n)) word then Some (suc n) else number_up_to n word
 
-unfoldable pub greatest_sample : ℕ
+abbrev pub greatest_sample : ℕ
 greatest_sample = 64
 
 -- one number: `sample N`

@@ -124,7 +124,14 @@ fn sample<K: Sink, T: Ledger, Q: Ledger>(
     ensures reads { reads.new ≡ reads.old }
 {
     match sample_input(alloc, number) {
-        Ok(read) => answer(alloc, Verb::Trace(Telling::Summary(number)), read, sink, tests, reads),
+        Ok(read) => answer(
+            alloc,
+            Verb::Trace(Telling::Summary(number)),
+            read,
+            sink,
+            tests,
+            reads,
+        ),
         Err(NoMemory) => Status::NoMemory,
     }
 }

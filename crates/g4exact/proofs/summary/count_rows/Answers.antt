@@ -1,13 +1,13 @@
-use Rattle.std.proofs.Common.{arith, ◌≤◌, ◌≡◌, ◌∙◌, refl, sym, subst, length}
-use Rattle.std.specs.Prelude.{EachIndex}
+use Rattle.std.proofs.Common.{arith, ap, ◌≤◌, ◌≡◌, ◌∙◌, refl, sym, subst, length}
+use Rattle.std.specs.Prelude.{EachIndex, ◌-◌, ◌^◌, min}
 use Rattle.gx_tree.specs.Hierarchy.{instances}
-use Rattle.g4exact.proofs.RowCounts.{counted_none, counted_more, counted_whole, never_fails}
+use Rattle.g4exact.proofs.RowCounts.{Counted, counted_none, counted_more, counted_whole, never_fails}
 use Rattle.g4exact.proofs.Tested.{tested_none, tested_more, tested_whole}
 use Rattle.g4exact.proofs.summary.count_rows.Goals as goal
 
 pub loop-i-init : goal.loop-i-init
 loop-i-init g c = record {
-  counted = counted_none c.args.sealed.now c.args.rays.now;
+  counted = subst (Counted c.args.sealed.now c.args.rays.now 0) (sym c.new.ensures) (counted_none c.args.sealed.now c.args.rays.now);
   tested = tested_none c.args.sealed.now c.args.rays.now _;
   room = c.requires.room;
   reads = refl;
@@ -22,7 +22,17 @@ loop-i-preserved g c =
     record {
       counted = counted_more h rays c.loop-i.i c.loop-i.rows inv.counted c.ray.result c.ray.ensures.ray traced.report.0 traced.report.1 c.trace_ray.new.rows
           (never_fails c.trace_ray.result traced.cause _ traced.report.2.all);
-      tested = tested_more h rays c.loop-i.i _ _ _ inv.tested c.ray.result c.ray.ensures.ray traced.tests.0 traced.tests.1 (never_fails c.trace_ray.result traced.cause _ traced.tests.3);
+      tested = tested_more h rays c.loop-i.i c.args.tests.now c.loop-i.tests c.trace_ray.new.tests inv.tested c.ray.result c.ray.ensures.ray traced.tests.0 traced.tests.1 (never_fails c.trace_ray.result traced.cause _ traced.tests.3);
       room = subst (λ s. EachIndex h.volumes (λ v. length (instances h v) ≤ s)) (sym traced.room) inv.room;
       reads = traced.reads ∙ inv.reads;
     }
+
+pub returns-clause-rows : goal.returns-clause-rows
+returns-clause-rows g c = (
+  c.loop-i.rows,
+  counted_whole c.args.sealed.now c.args.rays.now c.loop-i.i c.loop-i.rows c.loop-i.invariant.counted (omega arith),
+  c.rows.invariant ∙ ap (λ n. min n (2 ^ 64 - 1)) c.rows.view_is,
+)
+
+pub returns-clause-tests : goal.returns-clause-tests
+returns-clause-tests g c = tested_whole c.args.sealed.now c.args.rays.now c.loop-i.i c.args.tests.now c.loop-i.tests c.loop-i.invariant.tested (omega arith)

@@ -35,7 +35,7 @@ returns-in_err-print_ray-clause-bytes g c =
     let rays = c.args.rays.now in
     let kept = recursion_from_All IsTraceable rays c.count-i-end.ensures.kept in
     let p = err_from_is_err_and c.from_residual.result c.from_residual.ensures.1 in
-    let front = head_stopped h rays c.loop-i.i _ _ _ c.loop-i.invariant.traced c.ray-ray.result c.ray-ray.ensures.ray c.requires.kept kept c.ray-ray.ensures.kept c.in_err-print_ray.ensures.bytes.front in
+    let front = head_stopped h rays c.loop-i.i (g.K.Sink.written c.args.lines.now.sink) (g.K.Sink.written c.loop-i.lines.sink) (g.K.Sink.written c.print_ray.new.sink) c.loop-i.invariant.traced c.ray-ray.result c.ray-ray.ensures.ray c.requires.kept kept c.ray-ray.ensures.kept c.in_err-print_ray.ensures.bytes.front in
     rw p.1 (front.0, front.1, record { all = tt; front = front.2 })
 
 pub returns-in_err-print_ray-clause-tests : goal.returns-in_err-print_ray-clause-tests
@@ -44,7 +44,7 @@ returns-in_err-print_ray-clause-tests g c =
     let rays = c.args.rays.now in
     let kept = recursion_from_All IsTraceable rays c.count-i-end.ensures.kept in
     let p = err_from_is_err_and c.from_residual.result c.from_residual.ensures.1 in
-    let few = tested_before h rays c.loop-i.i _ _ _ c.loop-i.invariant.tested c.requires.kept.tree kept refl in
+    let few = tested_before h rays c.loop-i.i c.args.tests.now c.loop-i.tests c.loop-i.tests c.loop-i.invariant.tested c.requires.kept.tree kept refl in
     rw p.1 (few.0, few.1, few.2, tt)
 
 pub returns-in_err-trace_ray-clause-bytes : goal.returns-in_err-trace_ray-clause-bytes
@@ -57,7 +57,7 @@ returns-in_err-trace_ray-clause-bytes g c =
     let headed = g.K.Sink.written c.print_ray.new.sink in
     let new = g.K.Sink.written c.trace_ray.new.rows.sink in
     let rows = subst (AppendsFront headed new) (lines_of_report h (texts_in c.loop-i.lines.sealed.now) report.0 c.loop-i.invariant.items) report.2.front in
-    let front = rows_stopped h rays c.loop-i.i _ _ _ c.loop-i.invariant.traced c.ray-ray.result c.ray-ray.ensures.ray report.0 report.1 headed c.in_ok-print_ray.ensures.bytes.all c.requires.kept kept rows in
+    let front = rows_stopped h rays c.loop-i.i (g.K.Sink.written c.args.lines.now.sink) (g.K.Sink.written c.loop-i.lines.sink) new c.loop-i.invariant.traced c.ray-ray.result c.ray-ray.ensures.ray report.0 report.1 headed c.in_ok-print_ray.ensures.bytes.all c.requires.kept kept rows in
     rw p.1 (front.0, front.1, record { all = tt; front = front.2 })
 
 pub returns-in_err-trace_ray-clause-tests : goal.returns-in_err-trace_ray-clause-tests
@@ -67,7 +67,7 @@ returns-in_err-trace_ray-clause-tests g c =
     let kept = recursion_from_All IsTraceable rays c.count-i-end.ensures.kept in
     let p = err_from_is_err_and c.from_residual-in_err-trace_ray.result c.from_residual-in_err-trace_ray.ensures.1 in
     let tests = c.in_err-trace_ray.ensures.tests in
-    let few = tested_within h rays c.loop-i.i _ _ _ c.loop-i.invariant.tested c.ray-ray.result c.ray-ray.ensures.ray tests.0 tests.1 c.requires.kept.tree kept tests.2 in
+    let few = tested_within h rays c.loop-i.i c.args.tests.now c.loop-i.tests c.trace_ray.new.tests c.loop-i.invariant.tested c.ray-ray.result c.ray-ray.ensures.ray tests.0 tests.1 c.requires.kept.tree kept tests.2 in
     rw p.1 (few.0, few.1, few.2, tt)
 
 pub loop-i-preserved : goal.loop-i-preserved
@@ -80,8 +80,8 @@ loop-i-preserved g c =
     let new = g.K.Sink.written c.trace_ray.new.rows.sink in
     let lines = subst (λ l. new ≡ with_after headed l) (lines_of_report h (texts_in c.loop-i.lines.sealed.now) traced.report.0 inv.items) traced.report.2.all in
     record {
-      traced = traced_more h rays c.loop-i.i _ _ _ inv.traced c.ray-ray.result c.ray-ray.ensures.ray traced.report.0 traced.report.1 headed c.in_ok-print_ray.ensures.bytes.all lines;
-      tested = tested_more h rays c.loop-i.i _ _ _ inv.tested c.ray-ray.result c.ray-ray.ensures.ray traced.tests.0 traced.tests.1 traced.tests.3;
+      traced = traced_more h rays c.loop-i.i (g.K.Sink.written c.args.lines.now.sink) (g.K.Sink.written c.loop-i.lines.sink) new inv.traced c.ray-ray.result c.ray-ray.ensures.ray traced.report.0 traced.report.1 headed c.in_ok-print_ray.ensures.bytes.all lines;
+      tested = tested_more h rays c.loop-i.i c.args.tests.now c.loop-i.tests c.trace_ray.new.tests inv.tested c.ray-ray.result c.ray-ray.ensures.ray traced.tests.0 traced.tests.1 traced.tests.3;
       items = traced.same_items ∙ inv.items;
       takes = traced.same_takes ∙ inv.takes;
       room = subst (λ s. EachIndex h.volumes (λ v. length (instances h v) ≤ s)) (sym traced.room) inv.room;
@@ -91,10 +91,10 @@ loop-i-preserved g c =
 
 pub returns-clause-bytes : goal.returns-clause-bytes
 returns-clause-bytes g c =
-    let whole = traced_whole c.args.sealed.now c.args.rays.now c.loop-i.i _ _ c.loop-i.invariant.traced (omega arith) in
+    let whole = traced_whole c.args.sealed.now c.args.rays.now c.loop-i.i (g.K.Sink.written c.args.lines.now.sink) (g.K.Sink.written c.loop-i.lines.sink) c.loop-i.invariant.traced (omega arith) in
     (whole.0, whole.1, record { all = whole.2; front = tt })
 
 pub returns-clause-tests : goal.returns-clause-tests
 returns-clause-tests g c =
-    let whole = tested_whole c.args.sealed.now c.args.rays.now c.loop-i.i _ _ c.loop-i.invariant.tested (omega arith) in
+    let whole = tested_whole c.args.sealed.now c.args.rays.now c.loop-i.i c.args.tests.now c.loop-i.tests c.loop-i.invariant.tested (omega arith) in
     (whole.0, whole.1, omega (arith, whole.2), whole.2)
