@@ -4,30 +4,40 @@ use gx_expr::{Grid, Params, Value};
 use gx_form::Refusal;
 use gx_num::V3;
 use gx_table::fault_text;
-use gx_text::{Line, Lines, Name};
+use gx_text::{Line, LineError, Lines, Name};
 use std::alloc::Global;
 use std::process::Abort;
 use std::test::Fail;
 
-fn line_of(alloc: Global, text: &[u8]) -> Result<Line, Fail> {
-    let mut lines = Lines::new(alloc);
-    match lines.take(text) {
-        Ok(_) => {}
-        Err(_) => return Err("a fault of the line".into()),
-    }
-    match lines.finish() {
-        Ok(Some(line)) => Ok(line),
-        _ => Err("no line".into()),
+// A value that takes long to be shown dropped, as a line or a declaration, is owned by functions with one way out.
+
+fn millimetre() -> Result<Grid, Fail> {
+    let one = Value::new(1, 1, true, false)?;
+    Ok(Grid::new(&one).ok_or("a grid")?)
+}
+
+fn finished(last: Result<Option<Line>, LineError>) -> Option<Line> {
+    match last {
+        Ok(line) => line,
+        Err(_) => None,
     }
 }
 
-fn declared(alloc: Global, text: &[u8]) -> Result<Result<Declaration, Refusal>, Fail> {
-    let line = line_of(alloc, text)?;
-    let one = Value::new(1, 1, true, false)?;
-    let grid = Grid::new(&one).ok_or("a grid")?;
+// The one line of a text, where it has no fault: a fault is told at the end again.
+fn line_of(alloc: Global, text: &[u8]) -> Option<Line> {
+    let mut lines = Lines::new(alloc);
+    let _taken = lines.take(text).is_ok();
+    finished(lines.finish())
+}
+
+// d is 10.
+fn parameters(alloc: Global, ten: Value) -> Option<Params> {
     let mut params = Params::new(alloc);
-    params.define(b"d", Value::new(10, 1, false, false)?)?;
-    Ok(decl(alloc, &line, &params, &grid))
+    if params.define(b"d", ten).is_ok() {
+        Some(params)
+    } else {
+        None
+    }
 }
 
 fn push_name(text: &mut String, name: &Name) -> Result<(), Fail> {
@@ -150,17 +160,34 @@ fn push(alloc: Global, text: &mut String, declaration: &Declaration) -> Result<(
     }
 }
 
-fn answer(alloc: Global, line: &[u8]) -> Result<String, Fail> {
-    match declared(alloc, line)? {
-        Ok(declaration) => {
-            let mut text = String::new(alloc);
-            push(alloc, &mut text, &declaration)?;
-            Ok(text)
-        }
+fn described(alloc: Global, declaration: &Declaration) -> Result<String, Fail> {
+    let mut text = String::new(alloc);
+    push(alloc, &mut text, declaration)?;
+    Ok(text)
+}
+
+fn told(alloc: Global, answer: Result<Declaration, Refusal>) -> Result<String, Fail> {
+    match answer {
+        Ok(declaration) => described(alloc, &declaration),
         Err(Refusal::At(fault)) => {
             Ok(format!(in alloc; "{} {}", fault.place, fault_text(fault.name))?)
         }
         Err(Refusal::NoMemory) => Err("no memory".into()),
+    }
+}
+
+fn declared(alloc: Global, params: &Params, grid: &Grid, text: &[u8]) -> Result<String, Fail> {
+    match line_of(alloc, text) {
+        Some(line) => told(alloc, decl(alloc, &line, params, grid)),
+        None => Err("no line".into()),
+    }
+}
+
+fn answer(alloc: Global, text: &[u8]) -> Result<String, Fail> {
+    let grid = millimetre()?;
+    match parameters(alloc, Value::new(10, 1, false, false)?) {
+        Some(params) => declared(alloc, &params, &grid, text),
+        None => Err("no memory".into()),
     }
 }
 

@@ -3,33 +3,59 @@ use crate::{Input, input_from};
 use gx_expr::{Grid, Value};
 use gx_gather::{Gathered, ReadError};
 use gx_table::fault_text;
-use gx_text::{Line, Lines};
+use gx_text::{Line, LineError, Lines};
 use gx_tree::Hierarchy;
 use std::alloc::Global;
 use std::process::Abort;
 use std::test::Fail;
 
-fn take(gathered: &mut Gathered, line: Option<Line>) -> Result<(), Fail> {
-    if let Some(line) = line {
-        match gathered.take(&line) {
-            Ok(()) => {}
-            Err(_) => return Err("a fault of a line".into()),
-        }
-    }
-    Ok(())
+// A value that takes long to be shown dropped, as what is gathered or a hierarchy, is owned by functions with one way out.
+
+fn millimetre() -> Result<Grid, Fail> {
+    let one = Value::new(1, 1, true, false)?;
+    Ok(Grid::new(&one).ok_or("a grid")?)
 }
 
-// What the lines declare, each of which is without a fault.
-fn gathered(alloc: Global, text: &[u8]) -> Result<Gathered, Fail> {
-    let one = Value::new(1, 1, true, false)?;
-    let grid = Grid::new(&one).ok_or("a grid")?;
+fn take(gathered: &mut Gathered, line: Option<Line>) -> bool {
+    match line {
+        Some(line) => gathered.take(&line).is_ok(),
+        None => true,
+    }
+}
+
+// Whether the lines are without a fault.
+fn fed(gathered: &mut Gathered, lines: &mut Lines, text: &[u8]) -> bool {
+    for byte in text {
+        match lines.push(*byte) {
+            Ok(line) => {
+                if !take(gathered, line) {
+                    return false;
+                }
+            }
+            Err(_) => return false,
+        }
+    }
+    true
+}
+
+fn ended(gathered: &mut Gathered, last: Result<Option<Line>, LineError>) -> bool {
+    match last {
+        Ok(line) => take(gathered, line),
+        Err(_) => false,
+    }
+}
+
+// What a text makes, none of whose lines has a fault.
+fn read(alloc: Global, grid: Grid, text: &[u8]) -> Result<Input, ReadError> {
     let mut gathered = Gathered::new(alloc, grid);
     let mut lines = Lines::new(alloc);
-    for byte in text {
-        take(&mut gathered, lines.push(*byte)?)?;
+    let fed = fed(&mut gathered, &mut lines, text);
+    let ended = ended(&mut gathered, lines.finish());
+    if fed && ended {
+        input_from(alloc, gathered)
+    } else {
+        Err(ReadError::NoMemory)
     }
-    take(&mut gathered, lines.finish()?)?;
-    Ok(gathered)
 }
 
 // The name, the material and the daughters of a volume.
@@ -47,6 +73,11 @@ fn push_volume(alloc: Global, text: &mut String, tree: &Hierarchy, v: u32) -> Re
     Ok(())
 }
 
+fn counts(alloc: Global, input: &Input) -> Result<String, Fail> {
+    let world = input.tree.world();
+    Ok(format!(in alloc; "{} volumes, world {world}", input.tree.count())?)
+}
+
 fn described(alloc: Global, input: &Input) -> Result<String, Fail> {
     let mut text = String::new(alloc);
     for v in 0..input.tree.count() {
@@ -57,15 +88,32 @@ fn described(alloc: Global, input: &Input) -> Result<String, Fail> {
     Ok(text)
 }
 
-fn answer(alloc: Global, text: &[u8]) -> Result<String, Fail> {
-    match input_from(alloc, gathered(alloc, text)?) {
-        Ok(input) => described(alloc, &input),
+fn told(alloc: Global, answer: Result<Input, ReadError>, whole: bool) -> Result<String, Fail> {
+    match answer {
+        Ok(input) => {
+            if whole {
+                described(alloc, &input)
+            } else {
+                counts(alloc, &input)
+            }
+        }
         Err(ReadError::Text(fault)) => {
             let name = fault_text(fault.name);
             Ok(format!(in alloc; "fault {} {} {name}", fault.line, fault.word)?)
         }
         Err(ReadError::NoMemory) => Err("no memory".into()),
     }
+}
+
+fn answer(alloc: Global, text: &[u8]) -> Result<String, Fail> {
+    let grid = millimetre()?;
+    told(alloc, read(alloc, grid, text), true)
+}
+
+// The same, and of a hierarchy only how many volumes it has and which is the world.
+fn counted(alloc: Global, text: &[u8]) -> Result<String, Fail> {
+    let grid = millimetre()?;
+    told(alloc, read(alloc, grid, text), false)
 }
 
 fn check(rt: &impl Abort, alloc: Global, rows: &[(&str, &str)]) -> Result<(), Fail> {
@@ -179,11 +227,10 @@ fn chain(alloc: Global, count: u32) -> Result<String, Fail> {
 #[test]
 fn a_chain_of_33_placements_is_too_deep(rt: HostRuntime) -> Result<(), Fail> {
     let alloc = rt.alloc();
-    let deep = answer(alloc, chain(alloc, 34)?.as_bytes())?;
-    assert_eq!(rt; deep.as_str(), "fault 34 2 TooDeep");
-    let input = input_from(alloc, gathered(alloc, chain(alloc, 33)?.as_bytes())?)?;
-    assert_eq!(rt; input.tree.count(), 33);
-    assert_eq!(rt; input.tree.world(), 0);
+    for (count, wanted) in [(34, "fault 34 2 TooDeep"), (33, "33 volumes, world 0")] {
+        let text = chain(alloc, count)?;
+        assert_eq!(rt; counted(alloc, text.as_bytes())?.as_str(), wanted);
+    }
     Ok(())
 }
 
@@ -198,23 +245,35 @@ fn mothers(alloc: Global, count: u32) -> Result<String, Fail> {
     Ok(text)
 }
 
+// So many mothers, and then these lines.
+fn mothers_and(alloc: Global, count: u32, more: &str) -> Result<String, Fail> {
+    let mut text = mothers(alloc, count)?;
+    text.push_str(more)?;
+    Ok(text)
+}
+
 #[test]
 fn too_many_daughters(rt: HostRuntime) -> Result<(), Fail> {
     let alloc = rt.alloc();
-    let one = input_from(alloc, gathered(alloc, mothers(alloc, 1)?.as_bytes())?)?;
-    assert_eq!(rt; one.tree.count(), 2);
-    // The 4097th of one mother. Another mother's daughters don't count.
-    let mut text = mothers(alloc, 1)?;
-    text.push_str(":VOLU n BOX 1 1 1 Air\n:PLACE m0 1 n r0 0 0 0\n:PLACE d 1 m0 r0 0 0 0\n")?;
-    let crowded = answer(alloc, text.as_bytes())?;
-    assert_eq!(rt; crowded.as_str(), "fault 7 1 TooMany");
-    // 16 mothers have 65536 daughters, which are judged before worlds are; one more anywhere is too many.
-    let all = mothers(alloc, 16)?;
-    let most = answer(alloc, all.as_bytes())?;
-    assert_eq!(rt; most.as_str(), "fault 5 2 TwoWorlds");
-    let mut text = all;
-    text.push_str(":VOLU n BOX 1 1 1 Air\n:PLACE m0 1 n r0 0 0 0\n")?;
-    let crowded = answer(alloc, text.as_bytes())?;
-    assert_eq!(rt; crowded.as_str(), "fault 36 1 TooMany");
+    let rows = [
+        (1, "", "2 volumes, world 1"),
+        // The 4097th of one mother. Another mother's daughters don't count.
+        (
+            1,
+            ":VOLU n BOX 1 1 1 Air\n:PLACE m0 1 n r0 0 0 0\n:PLACE d 1 m0 r0 0 0 0\n",
+            "fault 7 1 TooMany",
+        ),
+        // 16 mothers have 65536 daughters, which are judged before worlds are; one more anywhere is too many.
+        (16, "", "fault 5 2 TwoWorlds"),
+        (
+            16,
+            ":VOLU n BOX 1 1 1 Air\n:PLACE m0 1 n r0 0 0 0\n",
+            "fault 36 1 TooMany",
+        ),
+    ];
+    for (count, more, wanted) in rows {
+        let text = mothers_and(alloc, count, more)?;
+        assert_eq!(rt; counted(alloc, text.as_bytes())?.as_str(), wanted, "{more}");
+    }
     Ok(())
 }

@@ -1,65 +1,127 @@
 use crate::Reader;
 use gx_expr::{Grid, Value};
-use gx_gather::{ReadError, TextFault};
+use gx_gather::{Rays, ReadError, TextFault};
 use gx_link::Input;
-use gx_num::{Extent, Ray, V3};
-use gx_rotation::Rotation;
+use gx_num::V3;
 use gx_table::FaultName::{
     Cycle, Direction, DivideByZero, Flat, Half, LongText, Mirror, Name, NoRotation, NoSolid,
     NoVolume, NoWorld, NotAscii, NotAxis, OffGrid, ReplicaFill, SolidKind, Syntax, Tag, TooFar,
     TooWide, Twice, TwoWorlds, UnitKind, UnknownParam, UnknownUnit, Words,
 };
-use gx_tree::Placement;
+use gx_tree::{Hierarchy, Placement};
 use std::alloc::Global;
 use std::test::Fail;
+
+// A value that takes long to be shown dropped, as a reader or an input, is owned by functions with one way out.
 
 fn millimetre() -> Result<Grid, Fail> {
     let step = Value::new(1, 1, true, false)?;
     Ok(Grid::new(&step).ok_or("a grid")?)
 }
 
-// Reads a text that comes in pieces of so many bytes.
-fn read(alloc: Global, text: &[u8], most: usize) -> Result<Result<Input, ReadError>, Fail> {
-    let mut reader = Reader::new(alloc, millimetre()?);
+// Whether memory sufficed for a text that comes in pieces of so many bytes.
+fn fed(reader: &mut Reader, text: &[u8], most: usize) -> bool {
     for piece in text.chunks(most.max(1)) {
-        reader.feed(piece)?;
+        if reader.feed(piece).is_err() {
+            return false;
+        }
     }
-    Ok(reader.finish())
+    true
 }
 
-fn point(x: i64, y: i64, z: i64) -> V3 {
-    V3 { x, y, z }
+// Where memory was wanting, the reader tells it at its end again.
+fn read(alloc: Global, grid: Grid, text: &[u8], most: usize) -> Result<Input, ReadError> {
+    let mut reader = Reader::new(alloc, grid);
+    let _sufficed = fed(&mut reader, text, most);
+    reader.finish()
 }
 
-// By hand: 2 cm are 20 steps of 1 mm, and 1 m is 1000. Tags and kinds are found in any case; rays may come first.
+fn fault(answer: Result<Input, ReadError>) -> Option<TextFault> {
+    match answer {
+        Err(ReadError::Text(fault)) => Some(fault),
+        _ => None,
+    }
+}
+
+fn first_fault(alloc: Global, text: &[u8], most: usize) -> Result<Option<TextFault>, Fail> {
+    let grid = millimetre()?;
+    Ok(fault(read(alloc, grid, text, most)))
+}
+
+fn push_points(alloc: Global, text: &mut String, a: V3, b: V3) -> Result<(), Fail> {
+    let points = format!(in alloc; " {}:{}:{} {}:{}:{}", a.x, a.y, a.z, b.x, b.y, b.z)?;
+    text.push_str(&points)?;
+    Ok(())
+}
+
+fn push_world(alloc: Global, text: &mut String, tree: &Hierarchy) -> Result<(), Fail> {
+    let world = tree.world();
+    text.push_str(str::from_utf8(tree.name(world))?)?;
+    text.push_str(" ")?;
+    text.push_str(str::from_utf8(tree.material(world))?)?;
+    let extent = tree.solid(world).hull().extent();
+    push_points(alloc, text, extent.low, extent.high)
+}
+
+fn push_placement(alloc: Global, text: &mut String, placement: &Placement) -> Result<(), Fail> {
+    if let Placement::Single {
+        volume,
+        copy,
+        rotation,
+        offset,
+    } = placement
+    {
+        let turn = rotation.index();
+        text.push_str(&format!(in alloc; "; single {volume} {copy} {turn}")?)?;
+        push_points(alloc, text, *offset, *offset)?;
+    }
+    Ok(())
+}
+
+fn push_placements(alloc: Global, text: &mut String, tree: &Hierarchy) -> Result<(), Fail> {
+    for placement in tree.placements(tree.world()) {
+        push_placement(alloc, text, placement)?;
+    }
+    Ok(())
+}
+
+fn push_rays(alloc: Global, text: &mut String, rays: &Rays) -> Result<(), Fail> {
+    for k in 0..rays.count() {
+        let ray = rays.ray(k);
+        text.push_str("; ray")?;
+        push_points(alloc, text, ray.o, ray.d)?;
+    }
+    Ok(())
+}
+
+// The world's name, material and extent, how many volumes there are, the world's placements and the rays.
+fn described(alloc: Global, input: &Input) -> Result<String, Fail> {
+    let mut text = String::new(alloc);
+    push_world(alloc, &mut text, &input.tree)?;
+    text.push_str(&format!(in alloc; "; {} volumes", input.tree.count())?)?;
+    push_placements(alloc, &mut text, &input.tree)?;
+    push_rays(alloc, &mut text, &input.rays)?;
+    Ok(text)
+}
+
+fn told(alloc: Global, answer: Result<Input, ReadError>) -> Result<String, Fail> {
+    match answer {
+        Ok(input) => described(alloc, &input),
+        Err(_) => Err("a fault".into()),
+    }
+}
+
+// By hand: 2 cm are 20 steps of 1 mm, and 1 m is 1000. Tags and kinds are found in any case; rays may come first. An offset
+// is written twice.
 #[test]
 fn a_text_gives_a_hierarchy_and_rays(rt: HostRuntime) -> Result<(), Fail> {
     let text =
         b":P half 2*cm // of x\n:RAY -50 0 7 1 0 0\n:Volu hall box $half 30 16777216 Air\r\n:MATE Lead 82 1/0\n\t:SOLID s BOX 1 2 3\n:ROTM r 0 0 90\n:PLACE bar -3 hall r 4 5 6\n:VOLU bar s Lead\n:RAY 1*m -2 3 $half/5 0 -16777216";
-    let input = read(rt.alloc(), text, 7)??;
-    let tree = &input.tree;
-    let world = tree.world();
-    assert!(rt; tree.name(world) == b"hall".as_slice());
-    assert!(rt; tree.material(world) == b"Air".as_slice());
-    let low = point(-20, -30, -16777216);
-    let high = point(20, 30, 16777216);
-    assert_eq!(rt; tree.solid(world).hull().extent(), Extent { low, high });
-    assert_eq!(rt; tree.count(), 2);
-    let placements = tree.placements(world);
-    let expected = Placement::Single {
-        volume: 1,
-        copy: -3,
-        rotation: Rotation::new(10),
-        offset: point(4, 5, 6),
-    };
-    assert!(rt; placements == [expected].as_slice());
-    assert_eq!(rt; input.rays.count(), 2);
-    let o = point(-50, 0, 7);
-    let d = point(1, 0, 0);
-    assert_eq!(rt; input.rays.ray(0), Ray { o, d });
-    let o = point(1000, -2, 3);
-    let d = point(4, 0, -16777216);
-    assert_eq!(rt; input.rays.ray(1), Ray { o, d });
+    let grid = millimetre()?;
+    let found = told(rt.alloc(), read(rt.alloc(), grid, text, 7))?;
+    let wanted =
+        "hall Air -20:-30:-16777216 20:30:16777216; 2 volumes; single 1 -3 10 4:5:6 4:5:6; ray -50:0:7 1:0:0; ray 1000:-2:3 4:0:-16777216";
+    assert_eq!(rt; found.as_str(), wanted);
     Ok(())
 }
 
@@ -139,14 +201,35 @@ fn each_text_has_its_first_fault(rt: HostRuntime) -> Result<(), Fail> {
     for (text, line, word, name) in cases {
         let first = TextFault { line, word, name };
         for most in [1usize, 7, 1000] {
-            let answer = read(alloc, text.as_bytes(), most)?;
-            assert!(rt;
-                matches!(&answer, Err(ReadError::Text(fault)) if *fault == first),
-                "{text:?}, {most} bytes at once"
-            );
+            let found = first_fault(alloc, text.as_bytes(), most)?;
+            assert_eq!(rt; found, Some(first), "{text:?}, {most} bytes at once");
         }
     }
     Ok(())
+}
+
+// Whether memory sufficed for a piece that comes so often.
+fn fed_often(reader: &mut Reader, piece: &[u8], count: u32) -> bool {
+    for _ in 0..count {
+        if reader.feed(piece).is_err() {
+            return false;
+        }
+    }
+    true
+}
+
+// The first fault of a first piece, a second so often, and a last.
+fn fault_of_pieces(
+    alloc: Global,
+    grid: Grid,
+    pieces: (&[u8], &[u8], &[u8]),
+    count: u32,
+) -> Option<TextFault> {
+    let mut reader = Reader::new(alloc, grid);
+    let _first = fed_often(&mut reader, pieces.0, 1);
+    let _more = fed_often(&mut reader, pieces.1, count);
+    let _last = fed_often(&mut reader, pieces.2, 1);
+    fault(reader.finish())
 }
 
 // By hand: 2^26 - 1 bytes are 1023 pieces of 65,536 and one of 65,535. A text's length is judged before its lines.
@@ -164,15 +247,11 @@ fn a_text_has_a_most(rt: HostRuntime) -> Result<(), Fail> {
         name: Tag,
     };
     let lines = vec![in alloc; b'\n'; 65536]?;
+    let last = lines.get(1..).ok_or("a line")?;
     for (more, first) in [(b"x".as_slice(), none), (b"xx".as_slice(), long)] {
-        let mut reader = Reader::new(alloc, millimetre()?);
-        reader.feed(more)?;
-        for _ in 0..1023 {
-            reader.feed(&lines)?;
-        }
-        reader.feed(&lines[1..])?;
-        let answer = reader.finish();
-        assert!(rt; matches!(&answer, Err(ReadError::Text(fault)) if *fault == first));
+        let grid = millimetre()?;
+        let found = fault_of_pieces(alloc, grid, (more, &lines, last), 1023);
+        assert_eq!(rt; found, Some(first));
     }
     Ok(())
 }
