@@ -1,0 +1,5 @@
+pub mod Covered
+pub mod Elements
+pub mod Flat
+pub mod Grown
+pub mod Slices

@@ -1,5 +1,6 @@
 -- What a tree of headers stands for.
-use Rattle.std.specs.Prelude.{◌≡◌, ℕ, zero, suc, ◌+◌, ◌≤◌, ◌<◌, ℤ, List, [], ◌∷◌, length, flat_map, Option, None, Some, IsSomeAnd}
+use Rattle.std.specs.Prelude.{◌≡◌, ◌⊎◌, ℕ, zero, suc, ◌+◌, ◌≤◌, ◌<◌, ℤ, List, [], ◌∷◌, length, flat_map, Option, None, Some}
+use Rattle.std.proofs.Common.{inl, inr}
 use Rattle.gx_num.specs.declared.extent.Extent.{Extent}
 use Rattle.gx_voxel.specs.Cut.{SliceRun, Cut, cut_of}
 use Rattle.gx_voxel.specs.Cells.{Side, Cell, without}
@@ -31,18 +32,11 @@ axis_of h = (out-Header h).axis
 abbrev pub list_of : Header → List Run
 list_of h = (out-Header h).runs.items
 
--- the members of a node
-abbrev pub node_of : Proxy → Option (List ℕ)
-node_of p = elim (out-Proxy p) [
-  | Node members ↦ Some members
-  | Refined header ↦ None
-]
-
--- the header of a proxy that is cut
-abbrev pub header_of : Proxy → Option Header
-header_of p = elim (out-Proxy p) [
-  | Node members ↦ None
-  | Refined header ↦ Some header.value
+-- what a proxy holds: a node's members, or a header
+abbrev pub content_of : Proxy → List ℕ ⊎ Header
+content_of p = elim (out-Proxy p) [
+  | Node members ↦ inl members
+  | Refined header ↦ inr header.value
 ]
 
 -- Each begins at the slice after the one before it, and at the coordinate where that ends; the first begins at these.
@@ -73,12 +67,12 @@ pub record IsRun (Stands : Proxy → List ℕ → Type 0) (r : Run) (run : Slice
 
 -- By the cut there is: a node with the members, or a header along the axis with exactly the runs, in order. `Stands` is said of the runs' proxies.
 abbrev pub StandsAs : (ℕ → Proxy → List ℕ → Type 0) → Proxy → List ℕ → Option Cut → Type 0
-StandsAs Stands p ks None = node_of p ≡ Some ks
-StandsAs Stands p ks (Some cut) = IsSomeAnd (header_of p) (λ h. (axis_of h ≡ cut.axis) × Alike (IsRun (Stands cut.axis)) (list_of h) cut.runs)
+StandsAs Stands p ks None = content_of p ≡ inl ks
+StandsAs Stands p ks (Some cut) = (h : Header) × (content_of p ≡ inr h) × (axis_of h ≡ cut.axis) × Alike (IsRun (Stands cut.axis)) (list_of h) cut.runs
 
 -- The proxy stands for the cells of these members, cut along the axes left at most so many times.
 unfoldable pub StandsWithin : (ℕ → Extent) → ℕ → Proxy → List ℕ → List ℕ → Type 0
-StandsWithin at zero p ks axes = node_of p ≡ Some ks
+StandsWithin at zero p ks axes = content_of p ≡ inl ks
 StandsWithin at (suc n) p ks axes = StandsAs (λ axis q members. StandsWithin at n q members (without axis axes)) p ks (cut_of at ks axes)
 
 -- the proxy stands for the cells of these members and axes
@@ -87,11 +81,11 @@ StandsFor at p ks axes = StandsWithin at (length axes) p ks axes
 
 -- the boxes of a proxy within a box, with the members of each, so many headers deep
 unfoldable pub boxes_within : ℕ → List Side → Proxy → List Cell
-boxes_within zero box p = elim (node_of p) [
-  | None ↦ []
-  | Some members ↦ record { box = box; members = members } ∷ []
+boxes_within zero box p = elim (content_of p) [
+  | inl members ↦ record { box = box; members = members } ∷ []
+  | inr h ↦ []
 ]
-boxes_within (suc n) box p = elim (out-Proxy p) [
-  | Node members ↦ record { box = box; members = members } ∷ []
-  | Refined header ↦ flat_map (λ r. boxes_within n (record { axis = axis_of header.value; low = low_of r; high = high_of r } ∷ box) (proxy_of r)) (list_of header.value)
+boxes_within (suc n) box p = elim (content_of p) [
+  | inl members ↦ record { box = box; members = members } ∷ []
+  | inr h ↦ flat_map (λ r. boxes_within n (record { axis = axis_of h; low = low_of r; high = high_of r } ∷ box) (proxy_of r)) (list_of h)
 ]
