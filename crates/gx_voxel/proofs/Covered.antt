@@ -10,7 +10,7 @@ use Rattle.gx_voxel.specs.Cells.{Side, Cell, IsInSide, IsInBox, coordinate4, sid
 use Rattle.gx_voxel.specs.Laws.{AnyByRecursion, IsOneOf, IsStrictlyBetween, IsWithinOpen, CellsCover}
 use Rattle.gx_voxel.proofs.Elements.{any-map, any-flat_map, kept, cut-is}
 use Rattle.gx_voxel.proofs.Grown.{HasSlice, runs-have}
-use Rattle.gx_voxel.proofs.Slices.{least-each, greatest-each, bound-rises, bound-first, bound-last}
+use Rattle.gx_voxel.proofs.Slices.{least-each, greatest-each, span-is, count-some, bound-rises, bound-first, bound-last}
 
 meets-is : (e : Interval) (from to : ℤ) → e.low <ℤ to → from <ℤ e.high → meets e from to ≡ true
 unfolding meets
@@ -18,14 +18,6 @@ meets-is e from to h k = both (int_lt e.low to) (int_lt from e.high) (grind (ari
   where
     both : (a b : Bool) → a ≡ true → b ≡ true → (a && b) ≡ true
     both a b h k = cc
-
-whole : (z : ℤ) → pos 0 <ℤ z → pos (unsigned_abs z) ≡ z
-whole (pos n) h = refl
-whole (negsuc n) h = absurd (omega (arith, ints, h))
-
-members : (ks : List ℕ) (k : ℕ) → IsOneOf k ks → 0 < length ks
-members [] k one = absurd one
-members (j ∷ ks) k one = omega arith
 
 -- ---- coordinates times w, which is above 0
 module _ (w x : ℤ) (above : pos 0 <ℤ w) where
@@ -53,29 +45,19 @@ module _ (w x : ℤ) (above : pos 0 <ℤ w) where
     abbrev grid : Grid
     grid = grid_of on ks
 
-    from : grid.low ≤ℤ (on k).low
-    from = least-each (λ k. (on k).low) ks k one
-
-    to : (on k).high ≤ℤ greatest (map (λ k. (on k).high) ks)
-    to = greatest-each (λ k. (on k).high) ks k one
-
-    wide : pos 0 <ℤ (greatest (map (λ k. (on k).high) ks) -ℤ grid.low)
-    wide = omega (arith, ints, from, to, apart (on k).low (on k).high (weaken (on k).low low) high)
-
-    span-is : pos grid.span ≡ greatest (map (λ k. (on k).high) ks) -ℤ grid.low
-    span-is = whole (greatest (map (λ k. (on k).high) ks) -ℤ grid.low) wide
+    order : (on k).low <ℤ (on k).high
+    order = apart (on k).low (on k).high (weaken (on k).low low) high
 
     some : 0 < grid.count
-    some = omega (arith, ints, members ks k one, span-is, wide)
+    some = count-some on ks k one order
 
     start : (bound_at grid 0 *ℤ w) ≤ℤ x
-    start = subst (λ b. (b *ℤ w) ≤ℤ x) (sym (bound-first grid some)) (lower grid.low (on k).low from (weaken (on k).low low))
+    start = subst (λ b. (b *ℤ w) ≤ℤ x) (sym (bound-first grid some)) (lower grid.low (on k).low (least-each (λ k. (on k).low) ks k one) (weaken (on k).low low))
 
     end : x <ℤ (bound_at grid grid.count *ℤ w)
-    end = subst (λ b. x <ℤ (b *ℤ w)) (sym (bound-last grid some ∙ last)) (higher (on k).high (greatest (map (λ k. (on k).high) ks)) to high)
-      where
-        last : grid.low +ℤ pos grid.span ≡ greatest (map (λ k. (on k).high) ks)
-        last = omega (arith, ints, span-is)
+    end =
+        subst (λ b. x <ℤ (b *ℤ w)) (sym (bound-last grid some ∙ span-is on ks k one order))
+        (higher (on k).high (greatest (map (λ k. (on k).high) ks)) (greatest-each (λ k. (on k).high) ks k one) high)
 
     in-slice : (i : ℕ) → (bound_at grid i *ℤ w) ≤ℤ x → x <ℤ (bound_at grid (i + 1) *ℤ w) → IsOneOf k (members_in on ks grid i)
     in-slice i low' high' =

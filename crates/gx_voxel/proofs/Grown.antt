@@ -1,8 +1,9 @@
 -- Runs of slices: each slice is in one of them, they follow one another, and two that are adjacent differ.
-use Rattle.std.proofs.Common.{◌≡◌, ◌≢◌, ℕ, zero, suc, ◌+◌, ◌<◌, ◌≤◌, inl, inr, refl, sym, ap, ◌∙◌, arith, Bool, true, false, List, [], ◌∷◌, nat_eq}
+use Rattle.std.proofs.Common.{◌≡◌, ◌≢◌, ℕ, zero, suc, ◌+◌, ◌<◌, ◌≤◌, inl, inr, refl, sym, ap, ◌∙◌, arith, Bool, true, false, List, [], ◌∷◌, nat_eq, map}
+use Rattle.std.specs.List.{range_with_len}
 use Rattle.std.specs.Cmp.Lexicographic.{pointwise, same_text}
 use Rattle.std.proofs.lemmas.Bool.{cases_lt}
-use Rattle.gx_voxel.specs.Cut.{Grid, SliceRun, grown, run_of, runs_of, values_from}
+use Rattle.gx_voxel.specs.Cut.{Grid, SliceRun, grown, run_of, runs_of}
 use Rattle.gx_voxel.specs.Laws.{AnyByRecursion, EachNext}
 use Rattle.gx_voxel.proofs.Elements.{by_test}
 
@@ -17,7 +18,7 @@ module _ (grid : Grid) (slice : ℕ → List ℕ) where
   Has i runs = AnyByRecursion (HasSlice grid i (slice i)) runs
 
   abbrev rest : ℕ → ℕ → List (List ℕ)
-  rest last n = values_from slice (last + 1) n
+  rest last n = map slice (range_with_len (last + 1) n)
 
   -- a slice of the run that grows
   now : (n first last : ℕ) (ks : List ℕ) (i : ℕ) → first ≤ i → i ≤ last → ks ≡ slice i → Has i (grown grid first last ks (rest last n))
@@ -41,7 +42,7 @@ module _ (grid : Grid) (slice : ℕ → List ℕ) where
         | inr most ↦ let is : last + 1 ≡ i = omega arith in now n (last + 1) (last + 1) (slice (last + 1)) i (omega arith) (omega arith) (ap slice is)
       ]))
 
-  pub runs-have : (n i : ℕ) → i < n → Has i (runs_of grid (values_from slice 0 n))
+  pub runs-have : (n i : ℕ) → i < n → Has i (runs_of grid (map slice (range_with_len 0 n)))
   runs-have zero i h = absurd (omega arith)
   runs-have (suc n) i h = elim (cases_lt 0 i) [
     | inl less ↦ later n 0 0 (slice 0) i (omega arith) less (omega arith)

@@ -1,11 +1,11 @@
 -- Bounds of slices rise, from the least coordinate to the greatest.
-use Rattle.std.proofs.Common.{◌≡◌, ℕ, zero, suc, ◌+◌, ◌*◌, ◌/◌, ◌<◌, ◌≤◌, ◌⊎◌, inl, inr, refl, sym, ap, subst, ◌∙◌, arith, ℤ, pos, ◌+ℤ◌, ◌≤ℤ◌, ◌<ℤ◌, List, [], ◌∷◌, fold, map}
+use Rattle.std.proofs.Common.{◌≡◌, ℕ, zero, suc, ◌+◌, ◌*◌, ◌/◌, ◌<◌, ◌≤◌, ◌⊎◌, inl, inr, refl, sym, ap, subst, ◌∙◌, arith, ℤ, pos, negsuc, ◌+ℤ◌, ◌-ℤ◌, ◌≤ℤ◌, ◌<ℤ◌, List, [], ◌∷◌, fold, map, length, unsigned_abs}
 use Rattle.std.specs.Int.{int_min, int_max}
 use Rattle.std.specs.Int.Signed.{≤ℤ_refl}
 use Rattle.std.proofs.Math.Nat.{div-mul-le_self, mul-div_left, zero-div, mul-le-mul_left}
 use Rattle.std.proofs.lemmas.Nat.{le-div}
 use Rattle.std.proofs.lemmas.Int.{ints, int_min_is, int_max_is}
-use Rattle.gx_voxel.specs.Cut.{Grid, least, greatest, bound_at}
+use Rattle.gx_voxel.specs.Cut.{Interval, Grid, least, greatest, grid_of, bound_at}
 use Rattle.gx_voxel.specs.Laws.{IsOneOf}
 
 module _ (f : ℕ → ℤ) where
@@ -36,6 +36,28 @@ module _ (f : ℕ → ℤ) where
   greatest-each [] k one = absurd one
   greatest-each (j ∷ ks) k (inl e) = subst (λ i. f i ≤ℤ greatest (map f (j ∷ ks))) (sym e) (greatest-first (f j) ks)
   greatest-each (j ∷ ks) k (inr one) = greatest-later (f j) ks k one
+
+whole : (z : ℤ) → pos 0 <ℤ z → pos (unsigned_abs z) ≡ z
+whole (pos n) h = refl
+whole (negsuc n) h = absurd (omega (arith, ints, h))
+
+-- where a member has points on the axis
+module _ (on : ℕ → Interval) (ks : List ℕ) (k : ℕ) (one : IsOneOf k ks) (order : (on k).low <ℤ (on k).high) where
+  abbrev high : ℤ
+  high = greatest (map (λ k. (on k).high) ks)
+
+  wide : pos 0 <ℤ (high -ℤ (grid_of on ks).low)
+  wide = omega (arith, ints, least-each (λ k. (on k).low) ks k one, greatest-each (λ k. (on k).high) ks k one)
+
+  pub span-is : (grid_of on ks).low +ℤ pos (grid_of on ks).span ≡ high
+  span-is = omega (arith, ints, whole (high -ℤ (grid_of on ks).low) wide)
+
+  pub count-some : 0 < (grid_of on ks).count
+  count-some = omega (arith, ints, members ks one, whole (high -ℤ (grid_of on ks).low) wide, wide)
+    where
+      members : (ks : List ℕ) → IsOneOf k ks → 0 < length ks
+      members [] one = absurd one
+      members (j ∷ ks) one = omega arith
 
 module _ (g : Grid) (some : 0 < g.count) where
   pub bound-rises : (i j : ℕ) → i ≤ j → bound_at g i ≤ℤ bound_at g j

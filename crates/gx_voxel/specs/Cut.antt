@@ -1,7 +1,7 @@
 -- Along which axis members are cut apart, and into which runs of slices (this project's own).
-use Rattle.std.specs.Prelude.{ℕ, zero, suc, ◌+◌, ◌*◌, ◌/◌, min, max, nat_lt, nat_le, nat_eq, ◌==◌, ℤ, pos, ◌+ℤ◌, ◌-ℤ◌, unsigned_abs, int_lt, Bool, ◌&&◌, ◌||◌, if◌then◌else◌, List, [], ◌∷◌, length, map, filter, fold, sum_by, Option, None, Some}
+use Rattle.std.specs.Prelude.{ℕ, ◌+◌, ◌*◌, ◌/◌, min, max, nat_lt, nat_le, nat_eq, ◌==◌, ℤ, pos, ◌+ℤ◌, ◌-ℤ◌, unsigned_abs, int_lt, Bool, ◌&&◌, ◌||◌, if◌then◌else◌, List, [], ◌∷◌, length, map, filter, fold, sum_by, Option, None, Some}
 use Rattle.std.specs.Int.{int_min, int_max}
-use Rattle.std.specs.List.{find, list_all}
+use Rattle.std.specs.List.{find, list_all, range_with_len}
 use Rattle.std.specs.Cmp.Lexicographic.{pointwise}
 use Rattle.gx_num.specs.declared.vector.V3.{V3}
 use Rattle.gx_num.specs.declared.extent.Extent.{Extent}
@@ -53,11 +53,6 @@ meets e from to = int_lt e.low to && int_lt from e.high
 abbrev pub members_in : (ℕ → Interval) → List ℕ → Grid → ℕ → List ℕ
 members_in on ks grid i = filter (λ k. meets (on k) (bound_at grid i) (bound_at grid (i + 1))) ks
 
--- the values of a function at n numbers from i on
-abbrev pub values_from : {X : Type 0} → (ℕ → X) → ℕ → ℕ → List X
-values_from f i zero = []
-values_from f i (suc n) = f i ∷ values_from f (i + 1) n
-
 -- Slices `first` to `last`, from one coordinate up to, and without, another, and the members in each of them.
 pub record SliceRun : Type 0 where
   pub first : ℕ
@@ -82,7 +77,7 @@ runs_of grid (ks ∷ slices) = grown grid 0 0 ks slices
 
 -- the runs of members on an axis
 abbrev pub runs_on : (ℕ → Interval) → List ℕ → List SliceRun
-runs_on on ks = let grid = grid_of on ks in runs_of grid (values_from (members_in on ks grid) 0 grid.count)
+runs_on on ks = let grid = grid_of on ks in runs_of grid (map (members_in on ks grid) (range_with_len 0 grid.count))
 
 -- how many members the longest run has, and how many all have together
 abbrev pub longest_of : List SliceRun → ℕ

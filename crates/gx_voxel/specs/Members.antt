@@ -1,8 +1,9 @@
 -- Lists of members, by their numbers, and what is known of the members' extents.
-use Rattle.std.specs.Prelude.{ℕ, ◌*◌, ◌≤◌, ◌<ℤ◌, unsigned_abs, List, length}
+use Rattle.std.specs.Prelude.{ℕ, ◌*◌, ◌≤◌, pos, ◌<ℤ◌, unsigned_abs, List, length, slice_index_or}
 use Rattle.std.specs.List.Sorted.{IsStrictlyIncreasing}
 use Rattle.gx_num.specs.declared.extent.Extent.{Extent}
 use Rattle.gx_num.specs.declared.vector.TheConstants.{M}
+use Rattle.gx_num.specs.declared.vector.V3.{V3}
 use Rattle.gx_num.specs.Vector.{IsWithin}
 
 -- the most members
@@ -25,3 +26,7 @@ pub record IsProper (e : Extent) : Type 0 where
   pub x : e.low.x <ℤ e.high.x
   pub y : e.low.y <ℤ e.high.y
   pub z : e.low.z <ℤ e.high.z
+
+-- the extent of the member with a number, of a list in which it is
+abbrev pub extent_at : List Extent → ℕ → Extent
+extent_at extents k = let zero : V3 = record { x = pos 0; y = pos 0; z = pos 0 } in slice_index_or extents k (record { low = zero; high = zero })

@@ -44,12 +44,4 @@ impl Members {
     {
         self.list[i as usize]
     }
-
-    /// All numbers.
-    pub fn as_slice(&self) -> &[u32]
-        ensures value { result.now ≡ self.now }
-        ensures members { AreMembers result.now }
-    {
-        self.list.as_slice()
-    }
 }
