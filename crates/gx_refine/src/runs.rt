@@ -1,6 +1,7 @@
-ghost use Rattle.std.specs.Prelude.{◌≡◌, ◌<◌, ◌≤◌, length, IfOk, sum_by, fold, max};
+ghost use Rattle.std.specs.Prelude.{◌≡◌, ◌<◌, ◌≤◌, length, IfOk, OnOk};
 ghost use Rattle.std.specs.List.{All};
 ghost use Rattle.gx_voxel.specs.Cut.{grid_of, run_of, members_in, runs_on, longest_of, entries_of};
+ghost use Rattle.gx_refine.specs.Grown.{ended_after, last_after};
 ghost use Rattle.gx_refine.specs.Known.{AreKnown, AreParts, along};
 
 use crate::grid::{Slices, members_between};
@@ -59,6 +60,27 @@ fn slice(
     members_between(alloc, extents, axis, members, from, to)
 }
 
+// One slice more: the last run is longer, or it has ended and another begins.
+fn add_slice(
+    ended: &mut Vec<Part>,
+    run: &mut Part,
+    slices: &Slices,
+    i: u32,
+    next: Vec<u32>,
+) -> Result<(), NoMemory>
+    requires { i < slices.now.count }
+    ensures ended { OnOk result (ended.new.items ≡ ended_after ended.old.items run.old next.items) }
+    ensures run { OnOk result (run.new ≡ last_after slices.now run.old i next.items) }
+{
+    if run.members.as_slice() == next.as_slice() {
+        run.last = i;
+        run.high = slices.bound(u64::from(i) + 1);
+        return Ok(());
+    }
+    ended.push(mem::replace(run, part_of_slice(slices, i, next)))?;
+    Ok(())
+}
+
 /// The runs of members on an axis.
 pub fn runs(
     alloc: Global,
@@ -80,12 +102,7 @@ pub fn runs(
     );
     for i in 1..slices.count() as u32 {
         let next = slice(alloc, extents, axis, members, &slices, i)?;
-        if next.as_slice() == run.members.as_slice() {
-            run.last = i;
-            run.high = slices.bound(u64::from(i) + 1);
-        } else {
-            runs.push(mem::replace(&mut run, part_of_slice(&slices, i, next)))?;
-        }
+        add_slice(&mut runs, &mut run, &slices, i, next)?;
     }
     runs.push(run)?;
     Ok(runs)

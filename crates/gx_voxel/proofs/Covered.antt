@@ -99,10 +99,10 @@ module _ (at : ℕ → Extent) (p : Vec4) (above : pos 0 <ℤ p.w) (k : ℕ) (in
 
   in-cut : (ks axes : List ℕ) → IsOneOf k ks → (cut : Cut) → cut_of at ks axes ≡ Some cut → AnyByRecursion (InRun cut.axis) cut.runs
   in-cut ks axes one cut e =
-      cut-is at ks (λ c. AnyByRecursion (InRun c.axis) c.runs)
-      (λ axis. let b = between axis (at k) p inside in
+      cut-is at ks (λ c. AnyByRecursion (InRun c.axis) c.runs) axes
+      (λ axis _. let b = between axis (at k) p inside in
         any-map _ (InRun axis) (λ run h. ((h.0, h.1), h.2)) (cut_along at ks axis).runs (in-run p.w (coordinate4 axis p) above (λ j. interval_on axis (at j)) ks k one b.0 b.1))
-      axes cut e
+      cut e
 
   cover-within : (n : ℕ) (box : List Side) (ks axes : List ℕ) → IsOneOf k ks → IsInBox p box → AnyByRecursion Has (cells_within at n box ks axes)
   unfolding cells_within

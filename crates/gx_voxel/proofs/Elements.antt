@@ -1,7 +1,7 @@
 -- Some elements of lists, all of them, and what is found among them.
-use Rattle.std.proofs.Common.{◌≡◌, ℕ, inl, inr, refl, sym, ap, subst, ◌∙◌, Bool, true, false, List, [], ◌∷◌, ◌++◌, filter, cond, map, length, nat_lt, Option, None, Some}
+use Rattle.std.proofs.Common.{◌≡◌, ℕ, suc, inl, inr, arith, refl, sym, ap, subst, ◌∙◌, Bool, true, false, List, [], ◌∷◌, ◌++◌, filter, cond, map, length, nat_lt, Option, None, Some}
 use Rattle.std.specs.Prelude.{flat_map}
-use Rattle.std.specs.List.{AllByRecursion, find, list_all}
+use Rattle.std.specs.List.{All, AllByRecursion, find, list_all}
 use Rattle.gx_num.specs.declared.extent.Extent.{Extent}
 use Rattle.gx_voxel.specs.Cut.{Cut, cut_along, cut_of, best_of, is_as_good, is_worth_it}
 use Rattle.gx_voxel.specs.Laws.{AnyByRecursion, IsOneOf}
@@ -48,14 +48,20 @@ kept test [] k one e = absurd one
 kept test (j ∷ ks) k (inl same) e = by_test (IsOneOf k) (test j) (j ∷ filter test ks) (filter test ks) (λ _. inl same) (λ f. absurd (cc (ap test same)))
 kept test (j ∷ ks) k (inr one) e = by_test (IsOneOf k) (test j) (j ∷ filter test ks) (filter test ks) (λ _. inr (kept test ks k one e)) (λ _. kept test ks k one e)
 
--- what holds of each cut along an axis holds of the one that is chosen
-pub cut-is : (at : ℕ → Extent) (ks : List ℕ) (P : Cut → Type 0) → ((axis : ℕ) → P (cut_along at ks axis)) → (axes : List ℕ) (cut : Cut) → cut_of at ks axes ≡ Some cut → P cut
+-- what holds of each cut along an axis that is left holds of the one that is chosen
+pub cut-is : (at : ℕ → Extent) (ks : List ℕ) (P : Cut → Type 0) (axes : List ℕ) → ((axis : ℕ) → IsOneOf axis axes → P (cut_along at ks axis)) → (cut : Cut) → cut_of at ks axes ≡ Some cut → P cut
 unfolding cut_of
-cut-is at ks P each axes cut =
+cut-is at ks P axes each cut =
     let cuts : List Cut = filter (is_worth_it (length ks)) (map (cut_along at ks) axes) in
     by_test (λ o. o ≡ Some cut → P cut) (nat_lt (length ks) 4) None (best_of cuts) (λ _ e. absurd (cc))
-    (λ _ e. found P (λ c. list_all (is_as_good c) cuts) cuts (all-filter P (is_worth_it (length ks)) (map (cut_along at ks) axes) (all axes)) cut e)
+    (λ _ e. found P (λ c. list_all (is_as_good c) cuts) cuts (all-filter P (is_worth_it (length ks)) (map (cut_along at ks) axes) (all axes each)) cut e)
   where
-    all : (axes : List ℕ) → AllByRecursion P (map (cut_along at ks) axes)
-    all [] = tt
-    all (axis ∷ axes) = (each axis, all axes)
+    all : (axes : List ℕ) → ((axis : ℕ) → IsOneOf axis axes → P (cut_along at ks axis)) → AllByRecursion P (map (cut_along at ks) axes)
+    all [] each = tt
+    all (axis ∷ axes) each = (each axis (inl refl), all axes (λ a one. each a (inr one)))
+
+-- what holds of each number holds of one of them
+pub all-one : (P : ℕ → Type 0) (ks : List ℕ) (k : ℕ) → All P ks → IsOneOf k ks → P k
+all-one P [] k all one = absurd one
+all-one P (j ∷ ks) k all (inl e) = subst P (sym e) (all 0 j (omega arith))
+all-one P (j ∷ ks) k all (inr one) = all-one P ks k (λ i d h. all (suc i) d (omega arith)) one

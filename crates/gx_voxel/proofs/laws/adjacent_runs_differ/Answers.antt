@@ -8,5 +8,5 @@ use Rattle.gx_voxel.proofs.laws.adjacent_runs_differ.Goals as goal
 
 pub returns : goal.returns
 returns c = λ at ks axes cut e.
-    cut-is at ks (λ c. EachNext (λ run next. run.members ≢ next.members) c.runs)
-    (λ axis. let grid = grid_of (λ k. interval_on axis (at k)) ks in runs-differ grid (map (members_in (λ k. interval_on axis (at k)) ks grid) (range_with_len 0 grid.count))) axes cut e
+    cut-is at ks (λ c. EachNext (λ run next. run.members ≢ next.members) c.runs) axes
+    (λ axis _. let grid = grid_of (λ k. interval_on axis (at k)) ks in runs-differ grid (map (members_in (λ k. interval_on axis (at k)) ks grid) (range_with_len 0 grid.count))) cut e
