@@ -1,3 +1,4 @@
 pub mod Growing
 pub mod Least
+pub mod Parts
 pub mod Ranges

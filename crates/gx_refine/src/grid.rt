@@ -33,7 +33,8 @@ impl Slices {
     pub fn new(extents: &[Extent], axis: u8, members: &[u32]) -> Slices
         requires known { AreKnown extents.now members.now }
         requires some { 0 < length members.now }
-        ensures { result ≡ grid_of (along extents.now axis) members.now }
+        ensures value { result ≡ grid_of (along extents.now axis) members.now }
+        ensures some { 0 < result.count }
     {
         let low = least(extents, axis, members);
         let high = greatest(extents, axis, members);
