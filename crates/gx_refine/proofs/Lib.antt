@@ -1,3 +1,4 @@
+pub mod Better
 pub mod Growing
 pub mod Least
 pub mod Parts

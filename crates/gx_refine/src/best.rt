@@ -1,9 +1,8 @@
 ghost use Rattle.std.specs.Prelude.{◌≡◌, ◌<◌, ◌≤◌, length, IfOk};
-ghost use Rattle.std.specs.List.{All};
 ghost use Rattle.gx_voxel.specs.Members.{extent_at};
 ghost use Rattle.gx_voxel.specs.Cut.{cut_along, cut_of, is_worth_it, is_as_good};
 ghost use Rattle.gx_refine.specs.Known.{AreKnown};
-ghost use Rattle.gx_refine.specs.Best.{better_of};
+ghost use Rattle.gx_refine.specs.Best.{better_of, best_with};
 
 use crate::runs::{Part, entries, longest, runs};
 use gx_num::{Extent, NoMemory};
@@ -80,6 +79,17 @@ fn better_of(best: Option<Parts>, cut: Parts) -> Parts
     }
 }
 
+fn best_with(members: u64, best: Option<Parts>, cut: Parts) -> Option<Parts>
+    requires { members ≤ 4096 }
+    ensures { result ≡ best_with members best cut }
+{
+    if is_worth_it(members, &cut) {
+        Some(better_of(best, cut))
+    } else {
+        best
+    }
+}
+
 /// The best cut of the members along an axis that is left and worth it, if there is one; fewer than 4 members aren't cut.
 pub fn cut(
     alloc: Global,
@@ -96,9 +106,7 @@ pub fn cut(
     let mut best = None;
     for axis in axes {
         let cut = cut_along(alloc, extents, members, *axis)?;
-        if is_worth_it(members.len() as u64, &cut) {
-            best = Some(better_of(best, cut));
-        }
+        best = best_with(members.len() as u64, best, cut);
     }
     Ok(best)
 }
