@@ -58,8 +58,8 @@ best-by front best back before after =
     find-is (λ c. list_all (is_as_good c) (front ++ best ∷ back)) front best back
     (all-map (λ c. is_as_good c best ≡ false) (λ c. list_all (is_as_good c) (front ++ best ∷ back) ≡ false) (λ c worse. list_all-not (is_as_good c) front best back worse) front before)
     (list_all-is (is_as_good best) (front ++ best ∷ back) (all-append (λ c. is_as_good best c ≡ true) front (best ∷ back)
-      (all-map (λ c. is_as_good c best ≡ false) (λ c. is_as_good best c ≡ true) (λ c worse. either (longest_of c.runs) (entries_of c.runs) (longest_of best.runs) (entries_of best.runs) worse) front before)
-      (itself (longest_of best.runs) (entries_of best.runs), after)))
+    (all-map (λ c. is_as_good c best ≡ false) (λ c. is_as_good best c ≡ true) (λ c worse. either (longest_of c.runs) (entries_of c.runs) (longest_of best.runs) (entries_of best.runs) worse) front before)
+    (itself (longest_of best.runs) (entries_of best.runs), after)))
 
 pub best-is : (cuts : List Cut) (best : Option Cut) → IsBest cuts best → best ≡ best_of cuts
 best-is cuts None h = sym (ap best_of h)
@@ -82,8 +82,8 @@ best-more cuts (Some best) cut h = go (is_as_good best cut) refl
       back = [];
       split = refl;
       before = subst (AllByRecursion (λ c. is_as_good c cut ≡ false)) (sym h.split) (all-append (λ c. is_as_good c cut ≡ false) h.front (best ∷ h.back)
-        (all-map (λ c. is_as_good c best ≡ false) (λ c. is_as_good c cut ≡ false) (λ c e. worse-worse (longest_of c.runs) (entries_of c.runs) (longest_of best.runs) (entries_of best.runs) (longest_of cut.runs) (entries_of cut.runs) e worse) h.front h.before)
-        (worse, all-map (λ c. is_as_good best c ≡ true) (λ c. is_as_good c cut ≡ false) (λ c e. good-worse (longest_of c.runs) (entries_of c.runs) (longest_of best.runs) (entries_of best.runs) (longest_of cut.runs) (entries_of cut.runs) e worse) h.back h.after));
+          (all-map (λ c. is_as_good c best ≡ false) (λ c. is_as_good c cut ≡ false) (λ c e. worse-worse (longest_of c.runs) (entries_of c.runs) (longest_of best.runs) (entries_of best.runs) (longest_of cut.runs) (entries_of cut.runs) e worse) h.front h.before)
+          (worse, all-map (λ c. is_as_good best c ≡ true) (λ c. is_as_good c cut ≡ false) (λ c e. good-worse (longest_of c.runs) (entries_of c.runs) (longest_of best.runs) (entries_of best.runs) (longest_of cut.runs) (entries_of cut.runs) e worse) h.back h.after));
       after = tt;
     }
 

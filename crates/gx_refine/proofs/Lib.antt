@@ -3,3 +3,4 @@ pub mod Growing
 pub mod Least
 pub mod Parts
 pub mod Ranges
+pub mod Trees

@@ -1,12 +1,13 @@
-ghost use Rattle.std.specs.Prelude.{◌≡◌, [], ◌∷◌, ◌<◌, ◌≤◌, ◌⊎◌, length, IfOk};
+ghost use Rattle.std.specs.Prelude.{◌≡◌, [], ◌∷◌, ◌<◌, ◌≤◌, ◌<ℤ◌, length, IfOk};
 ghost use Rattle.std.specs.List.{All, range_with_len};
 ghost use Rattle.std.proofs.Common.{inl, inr};
 ghost use Rattle.gx_voxel.specs.Members.{AreMembers, IsProper, extent_at};
 ghost use Rattle.gx_voxel.specs.Cells.{without};
-ghost use Rattle.gx_voxel.specs.Proxy.{content_of, axis_of, list_of, AreRuns, StandsWithin, StandsFor};
+ghost use Rattle.gx_voxel.specs.Proxy.{content_of, axis_of, list_of, AreRuns, IsRun, StandsWithin, StandsFor};
 ghost use Rattle.gx_refine.specs.Known.{AreKnown};
 
 use crate::best::cut;
+use crate::runs::Part;
 use gx_num::{Extent, NoMemory};
 use gx_voxel::{Header, Members, Proxy, Run};
 use std::alloc::Global;
@@ -54,9 +55,17 @@ fn refine(
     let mut runs = Vec::new(alloc);
     for part in &cut.runs {
         let proxy = refine(alloc, cuts - 1, extents, &part.members, &left)?;
-        runs.push(Run::new(part.first, part.last, part.low, part.high, proxy))?;
+        runs.push(run_with(part, proxy))?;
     }
     header(alloc, cut.axis, runs)
+}
+
+fn run_with(part: &Part, proxy: Proxy) -> Run
+    requires slices { part.now.first ≤ part.now.last }
+    requires bounds { part.now.low <ℤ part.now.high }
+    ensures { IsRun (λ q _. q ≡ proxy) result part.now }
+{
+    Run::new(part.first, part.last, part.low, part.high, proxy)
 }
 
 fn node(alloc: Global, members: &[u32]) -> Result<Proxy, NoMemory>

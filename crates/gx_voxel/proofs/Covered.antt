@@ -1,13 +1,13 @@
 -- A point in a member's open extent is in a run that has the member, on the axis that is cut, and so on down to a cell.
-use Rattle.std.proofs.Common.{◌≡◌, ℕ, zero, suc, ◌+◌, ◌*◌, ◌<◌, ◌≤◌, refl, sym, ap, subst, ◌∙◌, arith, ℤ, pos, negsuc, ◌+ℤ◌, ◌-ℤ◌, ◌*ℤ◌, ◌≤ℤ◌, ◌<ℤ◌, Bool, true, false, List, [], ◌∷◌, length, map, Option, None, Some, add-one, inl, nat_eq}
-use Rattle.std.specs.Prelude.{int_lt, unsigned_abs, ◌&&◌, flat_map, if◌then◌else◌, ◌==◌}
+use Rattle.std.proofs.Common.{◌≡◌, ℕ, zero, suc, ◌+◌, ◌<◌, refl, sym, subst, ◌∙◌, arith, ℤ, pos, ◌*ℤ◌, ◌≤ℤ◌, ◌<ℤ◌, Bool, true, false, List, [], ◌∷◌, length, map, Option, None, Some, add-one, inl}
+use Rattle.std.specs.Prelude.{int_lt, ◌&&◌, flat_map, if◌then◌else◌, ◌==◌}
 use Rattle.std.proofs.lemmas.Int.{ints, by_lt_z}
 use Rattle.gx_num.specs.Vector4.{Vec4}
 use Rattle.gx_num.specs.declared.extent.Extent.{Extent}
-use Rattle.gx_algebra.proofs.Order.{mul-le-left, mul-lt-left}
-use Rattle.gx_voxel.specs.Cut.{Interval, Grid, SliceRun, Cut, least, greatest, grid_of, bound_at, meets, members_in, run_of, runs_on, interval_on, cut_along, cut_of}
-use Rattle.gx_voxel.specs.Cells.{Side, Cell, IsInSide, IsInBox, coordinate4, side_of, without, cells_within, cells}
-use Rattle.gx_voxel.specs.Laws.{AnyByRecursion, IsOneOf, IsStrictlyBetween, IsWithinOpen, CellsCover}
+use Rattle.gx_algebra.proofs.Order.{mul-le-left}
+use Rattle.gx_voxel.specs.Cut.{Interval, Grid, SliceRun, Cut, greatest, grid_of, bound_at, meets, members_in, runs_on, interval_on, cut_along, cut_of}
+use Rattle.gx_voxel.specs.Cells.{Side, Cell, IsInSide, IsInBox, coordinate4, side_of, without, cells_within}
+use Rattle.gx_voxel.specs.Laws.{AnyByRecursion, IsOneOf, IsWithinOpen, CellsCover}
 use Rattle.gx_voxel.proofs.Elements.{any-map, any-flat_map, kept, cut-is}
 use Rattle.gx_voxel.proofs.Grown.{HasSlice, runs-have}
 use Rattle.gx_voxel.proofs.Slices.{least-each, greatest-each, span-is, count-some, bound-rises, bound-first, bound-last}
@@ -71,7 +71,7 @@ module _ (w x : ℤ) (above : pos 0 <ℤ w) where
     holds i low' high' run h = subst Holds (sym h.is) (
       lower (bound_at grid run.first) (bound_at grid i) (bound-rises grid some run.first i h.first) low',
       higher (bound_at grid (i + 1)) (bound_at grid (run.last + 1)) (bound-rises grid some (i + 1) (run.last + 1) (omega (arith, h.last))) high',
-      in-slice i low' high'
+      in-slice i low' high',
     )
 
     -- the run in which a coordinate is has each member whose interval it is in
@@ -101,7 +101,7 @@ module _ (at : ℕ → Extent) (p : Vec4) (above : pos 0 <ℤ p.w) (k : ℕ) (in
   in-cut ks axes one cut e =
       cut-is at ks (λ c. AnyByRecursion (InRun c.axis) c.runs) axes
       (λ axis _. let b = between axis (at k) p inside in
-        any-map _ (InRun axis) (λ run h. ((h.0, h.1), h.2)) (cut_along at ks axis).runs (in-run p.w (coordinate4 axis p) above (λ j. interval_on axis (at j)) ks k one b.0 b.1))
+      any-map _ (InRun axis) (λ run h. ((h.0, h.1), h.2)) (cut_along at ks axis).runs (in-run p.w (coordinate4 axis p) above (λ j. interval_on axis (at j)) ks k one b.0 b.1))
       cut e
 
   cover-within : (n : ℕ) (box : List Side) (ks axes : List ℕ) → IsOneOf k ks → IsInBox p box → AnyByRecursion Has (cells_within at n box ks axes)

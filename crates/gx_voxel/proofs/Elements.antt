@@ -1,5 +1,5 @@
 -- Some elements of lists, all of them, and what is found among them.
-use Rattle.std.proofs.Common.{◌≡◌, ℕ, suc, inl, inr, arith, refl, sym, ap, subst, ◌∙◌, Bool, true, false, List, [], ◌∷◌, ◌++◌, filter, cond, map, length, nat_lt, Option, None, Some}
+use Rattle.std.proofs.Common.{◌≡◌, ℕ, suc, inl, inr, arith, refl, sym, ap, subst, Bool, true, false, List, [], ◌∷◌, ◌++◌, filter, cond, map, length, nat_lt, None, Some}
 use Rattle.std.specs.Prelude.{flat_map}
 use Rattle.std.specs.List.{All, AllByRecursion, find, list_all}
 use Rattle.gx_num.specs.declared.extent.Extent.{Extent}

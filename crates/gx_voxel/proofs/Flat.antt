@@ -1,8 +1,8 @@
 -- The boxes of a tree that stands for cells.
-use Rattle.std.proofs.Common.{◌≡◌, ◌⊎◌, inl, inr, ℕ, zero, suc, List, [], ◌∷◌, ◌++◌, length, refl, sym, ap, subst, ◌∙◌, Option, None, Some}
+use Rattle.std.proofs.Common.{◌≡◌, ◌⊎◌, inl, inr, ℕ, zero, suc, List, [], ◌∷◌, length, refl, ap, ◌∙◌, Option, None, Some}
 use Rattle.std.specs.Prelude.{flat_map}
 use Rattle.gx_num.specs.declared.extent.Extent.{Extent}
-use Rattle.gx_voxel.specs.Cut.{SliceRun, Cut, cut_of}
+use Rattle.gx_voxel.specs.Cut.{Cut, cut_of}
 use Rattle.gx_voxel.specs.Cells.{Side, Cell, side_of, without, cells_within}
 use Rattle.gx_voxel.specs.Proxy.{low_of, high_of, proxy_of, axis_of, list_of, content_of, Alike, IsRun, StandsAs, StandsWithin, boxes_within}
 use Rattle.gx_voxel.specs.Laws.{FlatOfTreeIsCells}
@@ -41,7 +41,7 @@ flat-within at (suc n) box p ks axes stands = go (cut_of at ks axes) stands (λ 
         ∙ flat_map-alike (IsRun (λ q members. StandsWithin at n q members (without cut.axis axes))) (λ r. boxes_within n (side (axis_of stands.0) r ∷ box) (proxy_of r))
         (λ run. cells_within at n (side_of cut.axis run ∷ box) run.members (without cut.axis axes))
         (λ r run is. let e : side (axis_of stands.0) r ≡ side_of cut.axis run = cc (stands.2, is.low, is.high) in
-          ap (λ s. boxes_within n (s ∷ box) (proxy_of r)) e ∙ deeper (side_of cut.axis run ∷ box) (proxy_of r) run.members cut.axis is.proxy)
+        ap (λ s. boxes_within n (s ∷ box) (proxy_of r)) e ∙ deeper (side_of cut.axis run ∷ box) (proxy_of r) run.members cut.axis is.proxy)
         (list_of stands.0) cut.runs stands.3
 
 pub flat : FlatOfTreeIsCells

@@ -1,5 +1,5 @@
 -- Runs of slices: each slice is in one of them, they follow one another, and two that are adjacent differ.
-use Rattle.std.proofs.Common.{◌≡◌, ◌≢◌, ℕ, zero, suc, ◌+◌, ◌<◌, ◌≤◌, inl, inr, refl, sym, ap, ◌∙◌, arith, Bool, true, false, List, [], ◌∷◌, nat_eq, map, length, subst}
+use Rattle.std.proofs.Common.{◌≡◌, ◌≢◌, ℕ, zero, suc, ◌+◌, ◌<◌, ◌≤◌, inl, inr, refl, sym, ap, ◌∙◌, arith, true, List, [], ◌∷◌, nat_eq, map, length, subst}
 use Rattle.std.specs.List.{All, AllByRecursion, range_with_len}
 use Rattle.std.proofs.lemmas.List.FromFn.{length-map-range_with_len}
 use Rattle.std.specs.Cmp.Lexicographic.{pointwise, same_text}
@@ -105,8 +105,10 @@ module _ (grid : Grid) (Q : List ℕ → Type 0) where
       let e : last + 1 + 1 + length slices ≡ last + 1 + suc (length slices) = omega arith in
       by_test (InTurn grid Q first (last + 1 + suc (length slices))) (pointwise nat_eq ks next) (grown grid first (last + 1) ks slices) (run_of grid first last ks ∷ grown grid (last + 1) (last + 1) next slices)
       (λ _. subst (λ n. InTurn grid Q first n (grown grid first (last + 1) ks slices)) e (grown-turn first (last + 1) ks slices (omega arith) q all.1))
-      (λ _. (record { first = refl; last = h; below = omega arith; is = refl; has = q },
-        subst (λ n. InTurn grid Q (last + 1) n (grown grid (last + 1) (last + 1) next slices)) e (grown-turn (last + 1) (last + 1) next slices (omega arith) all.0 all.1)))
+      (λ _. (
+        record { first = refl; last = h; below = omega arith; is = refl; has = q },
+        subst (λ n. InTurn grid Q (last + 1) n (grown grid (last + 1) (last + 1) next slices)) e (grown-turn (last + 1) (last + 1) next slices (omega arith) all.0 all.1),
+      ))
 
   pub runs-turn : (slice : ℕ → List ℕ) → ((i : ℕ) → Q (slice i)) → (n : ℕ) → InTurn grid Q 0 n (runs_of grid (map slice (range_with_len 0 n)))
   runs-turn slice each zero = refl
@@ -136,10 +138,12 @@ module _ (grid : Grid) (Q : List ℕ → Type 0) where
   turn-follow Stands i n (h ∷ hs) [] all turn = absurd all
   turn-follow Stands i n (h ∷ hs) (run ∷ runs) all turn =
       let low : run.low ≡ bound_at grid run.first = ap (λ r. r.low) turn.0.is in
-      let high : run.high ≡ bound_at grid (run.last + 1) = ap (λ r. r.high) turn.0.is in
-      (all.0.first ∙ turn.0.first, all.0.low ∙ low ∙ ap (bound_at grid) turn.0.first,
+      let high : run.high ≡ bound_at grid (run.last + 1) = ap (λ r. r.high) turn.0.is in (
+        all.0.first ∙ turn.0.first,
+        all.0.low ∙ low ∙ ap (bound_at grid) turn.0.first,
         subst (λ z. FollowOn (last_of h + 1) z hs) (sym (all.0.high ∙ high))
-        (subst (λ j. FollowOn (j + 1) (bound_at grid (run.last + 1)) hs) (sym all.0.last) (turn-follow Stands (run.last + 1) n hs runs all.1 turn.1)))
+            (subst (λ j. FollowOn (j + 1) (bound_at grid (run.last + 1)) hs) (sym all.0.last) (turn-follow Stands (run.last + 1) n hs runs all.1 turn.1)),
+      )
 
   pub turn-runs : (Stands : Proxy → List ℕ → Type 0) (n : ℕ) (hs : List Run) (runs : List SliceRun) → 0 < n → n ≤ 1000 → Alike (IsRun Stands) hs runs → InTurn grid Q 0 n runs → AreRuns hs
   turn-runs Stands n hs runs some few all turn = record {

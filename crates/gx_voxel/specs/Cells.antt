@@ -1,9 +1,9 @@
 -- The cells of members that have extents: boxes of space with the members in them (this project's own).
-use Rattle.std.specs.Prelude.{ℕ, zero, suc, ◌==◌, not, ℤ, ◌*ℤ◌, ◌≤ℤ◌, ◌<ℤ◌, if◌then◌else◌, List, [], ◌∷◌, length, filter, flat_map, Option, None, Some}
+use Rattle.std.specs.Prelude.{ℕ, zero, suc, ◌==◌, not, ℤ, ◌*ℤ◌, ◌≤ℤ◌, ◌<ℤ◌, if◌then◌else◌, List, [], ◌∷◌, length, filter, flat_map, None, Some}
 use Rattle.std.specs.List.{AllByRecursion}
 use Rattle.gx_num.specs.Vector4.{Vec4}
 use Rattle.gx_num.specs.declared.extent.Extent.{Extent}
-use Rattle.gx_voxel.specs.Cut.{SliceRun, Cut, cut_of}
+use Rattle.gx_voxel.specs.Cut.{SliceRun, cut_of}
 
 -- on an axis from one coordinate up to, and without, another
 pub record Side : Type 0 where

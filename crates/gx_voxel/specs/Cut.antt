@@ -1,5 +1,5 @@
 -- Along which axis members are cut apart, and into which runs of slices (this project's own).
-use Rattle.std.specs.Prelude.{ℕ, ◌+◌, ◌*◌, ◌/◌, min, max, nat_lt, nat_le, nat_eq, ◌==◌, ℤ, pos, ◌+ℤ◌, ◌-ℤ◌, unsigned_abs, int_lt, Bool, ◌&&◌, ◌||◌, if◌then◌else◌, List, [], ◌∷◌, length, map, filter, fold, sum_by, Option, None, Some}
+use Rattle.std.specs.Prelude.{ℕ, ◌+◌, ◌*◌, ◌/◌, min, max, nat_lt, nat_le, nat_eq, ◌==◌, ℤ, pos, ◌+ℤ◌, ◌-ℤ◌, unsigned_abs, int_lt, Bool, ◌&&◌, ◌||◌, if◌then◌else◌, List, [], ◌∷◌, length, map, filter, fold, sum_by, Option, None}
 use Rattle.std.specs.Int.{int_min, int_max}
 use Rattle.std.specs.List.{find, list_all, range_with_len}
 use Rattle.std.specs.Cmp.Lexicographic.{pointwise}

@@ -3,7 +3,7 @@ use Rattle.std.specs.Prelude.{◌≡◌, ◌≢◌, ◌⊎◌, ℕ, ℤ, pos, �
 use Rattle.gx_num.specs.Vector4.{Vec4}
 use Rattle.gx_num.specs.declared.extent.Extent.{Extent}
 use Rattle.gx_voxel.specs.Cut.{Cut, cut_of}
-use Rattle.gx_voxel.specs.Cells.{Cell, IsInBox, cells}
+use Rattle.gx_voxel.specs.Cells.{IsInBox, cells}
 use Rattle.gx_voxel.specs.Proxy.{StandsFor, boxes_within}
 use Rattle.gx_voxel.specs.declared.proxy.Proxy.{Proxy}
 
