@@ -12,40 +12,16 @@ use Rattle.gx_voxel.specs.Proxy.{content_of, axis_of, list_of, Alike, IsRun, Sta
 use Rattle.gx_voxel.specs.declared.proxy.Proxy.{Proxy}
 use Rattle.gx_voxel.specs.declared.proxy.Header.{Header}
 use Rattle.gx_voxel.specs.declared.proxy.Run.{Run}
-use Rattle.gx_voxel.proofs.Elements.{cut-is}
-use Rattle.gx_voxel.proofs.Grown.{InTurn}
+use Rattle.gx_voxel.proofs.Standing.{IsCut, is-cut}
 use Rattle.gx_refine.specs.Known.{AreKnown, IsPart, AreParts, along}
-use Rattle.gx_refine.proofs.Parts.{known-some, known-turn, known-parts}
+use Rattle.gx_refine.proofs.Parts.{known-filter, known-proper, turn-parts}
 
 pub if_ok-map : {T E : Type 0} (P Q : T → Type 0) (r : Result T E) → ((x : T) → P x → Q x) → IfOk r P → IfOk r Q
 if_ok-map P Q (Ok x) f h = f x h
 if_ok-map P Q (Err e) f h = tt
 
--- a cut of known members
-pub record IsKnownCut (extents : List Extent) (axes : List ℕ) (cut : Cut) : Type 0 where
-  pub axis : IsOneOf cut.axis axes
-  pub grid : Grid
-  pub some : 0 < grid.count
-  pub few : grid.count ≤ 1000
-  pub turn : InTurn grid (AreKnown extents) 0 grid.count cut.runs
-  pub parts : AreParts extents cut.runs
-
-many : (at : ℕ → Extent) (ks axes : List ℕ) (cut : Cut) → cut_of at ks axes ≡ Some cut → 0 < length ks
-unfolding cut_of
-many at [] axes cut e = absurd (cc)
-many at (k ∷ ks) axes cut e = omega arith
-
-pub known-cut : (extents : List Extent) (ks axes : List ℕ) → AreKnown extents ks → (cut : Cut) → cut_of (extent_at extents) ks axes ≡ Some cut → IsKnownCut extents axes cut
-known-cut extents ks axes known cut e =
-    let some = many (extent_at extents) ks axes cut e in
-    cut-is (extent_at extents) ks (IsKnownCut extents axes) axes (λ axis one. record {
-      axis = one;
-      grid = grid_of (along extents axis) ks;
-      some = known-some extents axis ks known some;
-      few = omega arith;
-      turn = known-turn extents axis ks known some;
-      parts = known-parts extents axis ks known some;
-    }) cut e
+pub known-cut : (extents : List Extent) (ks axes : List ℕ) → AreKnown extents ks → (cut : Cut) → cut_of (extent_at extents) ks axes ≡ Some cut → IsCut (AreKnown extents) axes cut
+known-cut extents ks axes known cut e = is-cut (extent_at extents) (AreKnown extents) ks axes (λ test. known-filter extents test ks known) (known-proper extents ks known) cut e
 
 -- ---- a run more
 module _ {X Y : Type 0} (R : X → Y → Type 0) where
@@ -109,5 +85,7 @@ all-known extents few proper = record {
         let l = length-range_with_len 0 (length extents) in let h' : k + 1 < length extents = omega arith in let h'' : k < length extents = omega arith in
         omega (arith, get_or-range_with_len 0 (length extents) k 0 h'', get_or-range_with_len 0 (length extents) (k + 1) 0 h')
 
-pub part-at : (extents : List Extent) (axes : List ℕ) (cut : Cut) → IsKnownCut extents axes cut → (items : List SliceRun) (i : ℕ) (run : SliceRun) → items ≡ cut.runs → i < length items → run ≡ get_or items i run → IsPart extents run
-part-at extents axes cut known items i run e h is = subst (IsPart extents) (sym is) (subst (λ l. i < length l → IsPart extents (get_or l i run)) (sym e) (known.parts.each i run) h)
+pub part-at : (extents : List Extent) (axes : List ℕ) (cut : Cut) → IsCut (AreKnown extents) axes cut → (items : List SliceRun) (i : ℕ) (run : SliceRun) → items ≡ cut.runs → i < length items → run ≡ get_or items i run → IsPart extents run
+part-at extents axes cut known items i run e h is =
+    let parts = turn-parts extents known.grid cut.runs known.some known.few known.wide known.turn in
+    subst (IsPart extents) (sym is) (subst (λ l. i < length l → IsPart extents (get_or l i run)) (sym e) (parts.each i run) h)

@@ -3,3 +3,4 @@ pub mod Elements
 pub mod Flat
 pub mod Grown
 pub mod Slices
+pub mod Standing

@@ -1,11 +1,15 @@
 -- The laws of cells.
 use Rattle.std.specs.Prelude.{◌≡◌, ◌≢◌, ◌⊎◌, ℕ, ℤ, pos, ◌*ℤ◌, ◌<ℤ◌, List, [], ◌∷◌, length, Some}
+use Rattle.std.specs.List.{All}
+use Rattle.std.proofs.Common.{inr}
 use Rattle.gx_num.specs.Vector4.{Vec4}
 use Rattle.gx_num.specs.declared.extent.Extent.{Extent}
 use Rattle.gx_voxel.specs.Cut.{Cut, cut_of}
 use Rattle.gx_voxel.specs.Cells.{IsInBox, cells}
-use Rattle.gx_voxel.specs.Proxy.{StandsFor, boxes_within}
+use Rattle.gx_voxel.specs.Members.{IsProper}
+use Rattle.gx_voxel.specs.Proxy.{content_of, list_of, AreRuns, StandsWithin, StandsFor, boxes_within}
 use Rattle.gx_voxel.specs.declared.proxy.Proxy.{Proxy}
+use Rattle.gx_voxel.specs.declared.proxy.Header.{Header}
 
 -- P holds of some element
 abbrev pub AnyByRecursion : {X : Type 0} → (X → Type 0) → List X → Type 0
@@ -45,3 +49,7 @@ EachNext R (x ∷ y ∷ xs) = R x y × EachNext R (y ∷ xs)
 -- two adjacent runs of a cut have different members
 abbrev pub AdjacentRunsDiffer : Type 0
 AdjacentRunsDiffer = (at : ℕ → Extent) (ks axes : List ℕ) (cut : Cut) → cut_of at ks axes ≡ Some cut → EachNext (λ run next. run.members ≢ next.members) cut.runs
+
+-- The runs of a header that stands for members begin at slice 0 and follow one another, where no member is empty on an axis.
+abbrev pub HeadersHaveRuns : Type 0
+HeadersHaveRuns = (at : ℕ → Extent) (n : ℕ) (p : Proxy) (ks axes : List ℕ) (h : Header) → All (λ k. IsProper (at k)) ks → StandsWithin at n p ks axes → content_of p ≡ inr h → AreRuns (list_of h)
