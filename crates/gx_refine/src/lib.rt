@@ -1,0 +1,11 @@
+//! Building headers: the members of a mother cut apart along axes.
+#![tactic(auto)]
+
+mod best;
+mod grid;
+mod runs;
+#[cfg(test)]
+mod tests;
+mod tree;
+
+pub use tree::build;

@@ -1,0 +1,6 @@
+pub mod Covered
+pub mod Elements
+pub mod Flat
+pub mod Grown
+pub mod Slices
+pub mod Standing

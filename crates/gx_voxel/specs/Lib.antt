@@ -1,0 +1,5 @@
+pub mod Cells
+pub mod Cut
+pub mod Laws
+pub mod Members
+pub mod Proxy
