@@ -1,10 +1,9 @@
 -- The printed name of each fault.
 use Rattle.std.specs.Prelude.{ℕ, List, codes}
 use Rattle.gx_table.specs.declared.fault.FaultName.{FaultName}
-use Rattle.gx_table.specs.declared.fault.FaultName.TheVariants.{NotBuilt, LongText, LongLine, NotAscii, Tag, Words, Name, Syntax, UnknownParam, UnknownUnit, DivideByZero, TooWide, UnitKind, OffGrid, TooFar, Copies, Axis, SolidKind, Count, Half, Flat, Vertices, NotPlanar, NotConvex, MissingFace, OpenEdge, Sections, Scale, NotAxis, Mirror, Direction, Twice, TooMany, TooManyRays, NoSolid, NoVolume, NoRotation, Cycle, NoWorld, TwoWorlds, TooDeep, ReplicaMixed, ReplicaSolid, ReplicaFill}
+use Rattle.gx_table.specs.declared.fault.FaultName.TheVariants.{LongText, LongLine, NotAscii, Tag, Words, Name, Syntax, UnknownParam, UnknownUnit, DivideByZero, TooWide, UnitKind, OffGrid, TooFar, Copies, Axis, SolidKind, Count, Half, Flat, Vertices, NotPlanar, NotConvex, MissingFace, OpenEdge, Sections, Scale, NotAxis, Mirror, Direction, Twice, TooMany, TooManyRays, NoSolid, NoVolume, NoRotation, Cycle, NoWorld, TwoWorlds, TooDeep, ReplicaMixed, ReplicaSolid, ReplicaFill}
 
 abbrev pub text_of : FaultName → List ℕ
-text_of NotBuilt = codes "NotBuilt"
 text_of LongText = codes "LongText"
 text_of LongLine = codes "LongLine"
 text_of NotAscii = codes "NotAscii"

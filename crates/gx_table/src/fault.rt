@@ -4,7 +4,6 @@ ghost use Rattle.gx_table.specs.Faults.{text_of};
 /// What a text can have wrong.
 #[derive(Clone, Copy, PartialEq, Eq, Debug)]
 pub enum FaultName {
-    NotBuilt,
     LongText,
     LongLine,
     NotAscii,
@@ -55,7 +54,6 @@ pub fn fault_text(name: FaultName) -> &'static str
     ensures { result.now ≡ text_of name }
 {
     match name {
-        FaultName::NotBuilt => "NotBuilt",
         FaultName::LongText => "LongText",
         FaultName::LongLine => "LongLine",
         FaultName::NotAscii => "NotAscii",
