@@ -5,5 +5,6 @@ pub mod Feeding
 mod Numbers
 pub mod Paths
 pub mod Runs
+mod Samples
 pub mod Tested
 pub mod Traces

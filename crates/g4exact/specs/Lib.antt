@@ -1,5 +1,6 @@
 pub mod Commands
 pub mod Ends
+pub mod Laws
 pub mod Marks
 pub mod Output
 pub mod Tests

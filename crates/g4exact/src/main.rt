@@ -6,6 +6,7 @@ mod check;
 mod command;
 mod fault;
 mod input;
+pub mod laws;
 mod list;
 mod outcome;
 mod run;
