@@ -1,0 +1,3 @@
+pub mod Before
+pub mod Halves
+pub mod Parts

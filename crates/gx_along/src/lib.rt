@@ -1,0 +1,8 @@
+//! Going along a ray through the runs of a header.
+#![tactic(auto)]
+
+mod line;
+mod search;
+
+pub use line::{Bounds, Line, Stretch, Time, is_entered, is_left, part};
+pub use search::{first_left, read_bounds};
