@@ -1,3 +1,6 @@
 pub mod Before
+pub mod Exact
 pub mod Halves
+pub mod Outside
 pub mod Parts
+pub mod Stretches

@@ -1,3 +1,4 @@
+pub mod Along
 pub mod Digits
 pub mod Line
 pub mod Runs

@@ -2,7 +2,9 @@
 #![tactic(auto)]
 
 mod line;
+mod runs;
 mod search;
 
 pub use line::{Bounds, Line, Stretch, Time, is_entered, is_left, part};
+pub use runs::{Seen, Visit, along};
 pub use search::{first_left, read_bounds};
