@@ -12,8 +12,8 @@ use Rattle.gx_voxel.specs.Proxy.{list_of}
 use Rattle.gx_along.specs.declared.line.Stretch.{Stretch}
 use Rattle.gx_along.specs.declared.runs.Seen.{Seen}
 use Rattle.gx_along.specs.Line.{time, near, is_left, is_entered, IsInRun, IsWithin, IsStretch, IsPart}
-use Rattle.gx_along.specs.Runs.{IsRising, is_run_before, is_before, low_at, high_at}
-use Rattle.gx_along.specs.Along.{Walks, HasRuns, IsExact, index_of, left_of, is_entered_at, part_at, walked}
+use Rattle.gx_along.specs.Runs.{IsRising, HasRuns, is_run_before, is_before, low_at, high_at}
+use Rattle.gx_along.specs.Along.{Walks, IsExact, index_of, left_of, is_entered_at, part_at, walked}
 use Rattle.gx_along.proofs.Stretches.{part-is-part}
 use Rattle.gx_along.proofs.Outside.{left-out, entered-out}
 

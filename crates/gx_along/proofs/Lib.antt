@@ -3,4 +3,5 @@ pub mod Exact
 pub mod Halves
 pub mod Outside
 pub mod Parts
+pub mod Rising
 pub mod Stretches

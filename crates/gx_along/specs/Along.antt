@@ -8,7 +8,7 @@ use Rattle.gx_voxel.specs.Proxy.{list_of}
 use Rattle.gx_along.specs.declared.line.Stretch.{Stretch}
 use Rattle.gx_along.specs.declared.runs.Seen.{Seen}
 use Rattle.gx_along.specs.Line.{time, is_entered, part_of, IsWithin, IsInRun, IsPart}
-use Rattle.gx_along.specs.Runs.{low_at, high_at, is_before}
+use Rattle.gx_along.specs.Runs.{HasRuns, low_at, high_at, is_before}
 
 -- the j-th run along the ray, from the place that the search gave, and how many are left there
 abbrev pub index_of : ℤ → ℕ → ℕ → ℕ
@@ -39,10 +39,6 @@ pub record Walks (o d : ℤ) (h : Header) (s : Stretch) (before after : List See
   pub seen : after ≡ walked o d h s start steps ++ before
   pub entered : (m : ℕ) → m < steps → is_entered_at o d h (time s.to) (index_of d start m) ≡ true
   pub done : (steps ≡ left_of d (length (list_of h)) start) ⊎ (is_entered_at o d h (time s.to) (index_of d start steps) ≡ false)
-
--- each run has coordinates
-abbrev pub HasRuns : Header → Type 0
-HasRuns h = (i : ℕ) → i < length (list_of h) → low_at h i <ℤ high_at h i
 
 -- The runs gone into are exactly those that are met: the part of the stretch in each of these, and each run that has a point of the stretch.
 pub record IsExact (o d : ℤ) (h : Header) (s : Stretch) (seen : List Seen) : Type 0 where

@@ -1,4 +1,5 @@
 pub mod Along
 pub mod Digits
+pub mod Laws
 pub mod Line
 pub mod Runs

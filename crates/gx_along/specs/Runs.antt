@@ -1,5 +1,5 @@
 -- The runs of a header as bounds.
-use Rattle.std.specs.Prelude.{◌≡◌, ◌≤◌, ◌<◌, ℕ, ℤ, pos, ◌≤ℤ◌, unsigned_abs, ◌^◌, Bool, true, false, not, int_lt, if◌then◌else◌, List, length, map, get_or}
+use Rattle.std.specs.Prelude.{◌≡◌, ◌≤◌, ◌<◌, ℕ, ℤ, pos, ◌≤ℤ◌, ◌<ℤ◌, unsigned_abs, ◌^◌, Bool, true, false, not, int_lt, if◌then◌else◌, List, length, map, get_or}
 use Rattle.gx_num.specs.Ray.{RayParameter}
 use Rattle.gx_voxel.specs.declared.proxy.Header.{Header}
 use Rattle.gx_voxel.specs.Proxy.{list_of, low_of, high_of}
@@ -25,3 +25,7 @@ is_run_before o d low high t = if int_lt d (pos 0) then not (is_left o d low hig
 
 abbrev pub is_before : ℤ → ℤ → Header → RayParameter → ℕ → Bool
 is_before o d h t i = is_run_before o d (low_at h i) (high_at h i) t
+
+-- each run has coordinates
+abbrev pub HasRuns : Header → Type 0
+HasRuns h = (i : ℕ) → i < length (list_of h) → low_at h i <ℤ high_at h i

@@ -1,6 +1,7 @@
 //! Going along a ray through the runs of a header.
 #![tactic(auto)]
 
+pub mod laws;
 mod line;
 mod runs;
 mod search;

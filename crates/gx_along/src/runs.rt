@@ -2,8 +2,8 @@ ghost use Rattle.std.specs.Prelude.{◌≡◌, ℕ, List, ◌∷◌, ◌<◌, �
 ghost use Rattle.gx_along.specs.Digits.{digits};
 ghost use Rattle.gx_voxel.specs.Proxy.{list_of};
 ghost use Rattle.gx_along.specs.Line.{time, IsStretch};
-ghost use Rattle.gx_along.specs.Runs.{IsRising};
-ghost use Rattle.gx_along.specs.Along.{Walks, Goes, HasRuns, index_of, left_of, is_entered_at, part_at};
+ghost use Rattle.gx_along.specs.Runs.{HasRuns, IsRising};
+ghost use Rattle.gx_along.specs.Along.{Walks, Goes, index_of, left_of, is_entered_at, part_at};
 ghost use Rattle.gx_along.specs.declared.runs.Seen.{Seen};
 
 use crate::search::read_bounds;
