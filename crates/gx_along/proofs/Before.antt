@@ -1,12 +1,12 @@
 -- Runs before the one sought come first.
-use Rattle.std.proofs.Common.{◌≡◌, ℕ, zero, suc, ◌+◌, ◌-◌, ◌*◌, ◌<◌, ◌≤◌, refl, sym, ap, subst, ◌∙◌, arith, ℤ, pos, ◌-ℤ◌, ◌*ℤ◌, ◌≤ℤ◌, ◌<ℤ◌, Bool, true, false, not, List, [], ◌∷◌, length, map, get_or}
+use Rattle.std.proofs.Common.{◌≡◌, ℕ, zero, suc, ◌+◌, ◌*◌, ◌<◌, ◌≤◌, refl, ap, arith, ℤ, pos, ◌-ℤ◌, ◌*ℤ◌, ◌≤ℤ◌, Bool, true, false, not, List, [], ◌∷◌, length, map, get_or}
 use Rattle.std.specs.Prelude.{int_lt, int_le, if◌then◌else◌, unsigned_abs}
-use Rattle.std.proofs.lemmas.Int.{ints, by_lt_z}
+use Rattle.std.proofs.lemmas.Int.{ints}
 use Rattle.gx_num.specs.Ray.{RayParameter}
 use Rattle.gx_algebra.proofs.Order.{mul-le-left}
 use Rattle.gx_voxel.specs.declared.proxy.Header.{Header}
 use Rattle.gx_voxel.specs.Proxy.{list_of}
-use Rattle.gx_along.specs.Line.{is_left, far}
+use Rattle.gx_along.specs.Line.{is_left}
 use Rattle.gx_along.specs.Runs.{IsRising, is_run_before, is_before, low_at, high_at}
 
 pub read : {X : Type 0} (f : X → ℤ) (xs : List X) (i : ℕ) (x : X) → i < length xs → x ≡ get_or xs i x → f x ≡ get_or (map f xs) i (pos 0)

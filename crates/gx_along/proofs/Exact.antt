@@ -1,5 +1,5 @@
 -- Going from run to run goes into exactly the runs that are met.
-use Rattle.std.proofs.Common.{◌≡◌, ℕ, zero, suc, ◌+◌, ◌-◌, ◌*◌, ◌<◌, ◌≤◌, ◌⊎◌, inl, inr, refl, sym, ap, subst, ◌∙◌, arith, ℤ, pos, ◌-ℤ◌, ◌*ℤ◌, ◌≤ℤ◌, ◌<ℤ◌, Bool, true, false, not, List, [], ◌∷◌, length}
+use Rattle.std.proofs.Common.{◌≡◌, ℕ, zero, suc, ◌+◌, ◌-◌, ◌*◌, ◌<◌, ◌≤◌, inl, inr, refl, sym, ap, subst, ◌∙◌, arith, ℤ, pos, ◌-ℤ◌, ◌*ℤ◌, ◌≤ℤ◌, Bool, true, false, not, List, [], ◌∷◌, ◌++◌, length}
 use Rattle.std.specs.Prelude.{int_lt, int_le, if◌then◌else◌, unsigned_abs, ◌==◌}
 use Rattle.std.specs.List.{AllByRecursion}
 use Rattle.std.proofs.lemmas.Bool.{cases_lt}
@@ -11,9 +11,10 @@ use Rattle.gx_voxel.specs.declared.proxy.Header.{Header}
 use Rattle.gx_voxel.specs.Proxy.{list_of}
 use Rattle.gx_along.specs.declared.line.Stretch.{Stretch}
 use Rattle.gx_along.specs.declared.runs.Seen.{Seen}
-use Rattle.gx_along.specs.Line.{time, near, is_left, is_entered, IsInRun, IsWithin, IsStretch, IsPart}
+use Rattle.gx_along.specs.Line.{time, near, is_left, is_entered, IsStretch, IsPart}
 use Rattle.gx_along.specs.Runs.{IsRising, HasRuns, is_run_before, is_before, low_at, high_at}
-use Rattle.gx_along.specs.Along.{Walks, IsExact, index_of, left_of, is_entered_at, part_at, walked}
+use Rattle.gx_along.specs.Along.{Walks, IsExact, index_of, left_of, is_entered_at, walked}
+use Rattle.gx_voxel.proofs.Elements.{any-left, any-right}
 use Rattle.gx_along.proofs.Stretches.{part-is-part}
 use Rattle.gx_along.proofs.Outside.{left-out, entered-out}
 
@@ -46,7 +47,11 @@ before-down : (o d low high : ℤ) (t : RayParameter) → int_lt d (pos 0) ≡ t
 unfolding is_run_before
 before-down o d low high t e = ap (λ b. if b then not (is_left o d low high t) else is_left o d low high t) e
 
-module _ (o d : ℤ) (h : Header) (s : Stretch) (before after : List Seen) (ok : IsStretch s) (rising : IsRising h) (has : HasRuns h) (w : Walks o d h s before after) where
+all-push : {X : Type 0} (P : X → Type 0) (xs : List X) (x : X) → AllByRecursion P xs → P x → AllByRecursion P (xs ++ x ∷ [])
+all-push P [] x all one = (one, tt)
+all-push P (y ∷ xs) x all one = (all.0, all-push P xs x all.1 one)
+
+module _ (o d : ℤ) (h : Header) (s : Stretch) (seen : List Seen) (ok : IsStretch s) (rising : IsRising h) (has : HasRuns h) (w : Walks o d h s seen) where
   abbrev n : ℕ
   n = length (list_of h)
 
@@ -84,7 +89,8 @@ module _ (o d : ℤ) (h : Header) (s : Stretch) (before after : List Seen) (ok :
   parts-of zero less = tt
   parts-of (suc k) less =
       let g = good k (omega (arith, less, w.within)) in
-      ((g.0, part-is-part o d (low_at h (at k)) (high_at h (at k)) s ok (has (at k) g.0) g.1 (w.entered k (omega (arith, less)))), parts-of k (omega (arith, less)))
+      all-push (λ one. (one.index < n) × IsPart o d (low_at h one.index) (high_at h one.index) s one.part) (walked o d h s w.start k) _
+      (parts-of k (omega (arith, less))) (g.0, part-is-part o d (low_at h (at k)) (high_at h (at k)) s ok (has (at k) g.0) g.1 (w.entered k (omega (arith, less))))
 
   -- where a run that isn't left stands along the ray
   place : (i : ℕ) → i < n → is_left o d (low_at h i) (high_at h i) (time s.from) ≡ false → (m : ℕ) × (m < left_of d n w.start) × (at m ≡ i)
@@ -120,8 +126,8 @@ module _ (o d : ℤ) (h : Header) (s : Stretch) (before after : List Seen) (ok :
   listed : (k m : ℕ) → m < k → AnyByRecursion (λ (one : Seen). one.index ≡ at m) (walked o d h s w.start k)
   listed zero m less = absurd (omega (arith, less))
   listed (suc k) m less = elim (cases_lt m k) [
-    | inl l ↦ inr (listed k m l)
-    | inr l ↦ let e : k ≡ m = omega (arith, less, l) in inl (ap at e)
+    | inl l ↦ any-left (λ (one : Seen). one.index ≡ at m) (walked o d h s w.start k) _ (listed k m l)
+    | inr l ↦ let e : k ≡ m = omega (arith, less, l) in any-right (λ (one : Seen). one.index ≡ at m) (walked o d h s w.start k) _ (inl (ap at e))
   ]
 
   reached : (m : ℕ) → m < left_of d n w.start → is_entered_at o d h (time s.to) (at m) ≡ true → m < w.steps
@@ -135,8 +141,8 @@ module _ (o d : ℤ) (h : Header) (s : Stretch) (before after : List Seen) (ok :
     ]
   ]
 
-  pub exact : IsExact o d h s (walked o d h s w.start w.steps)
-  exact = record {
+  pub exact : IsExact o d h s seen
+  exact = subst (IsExact o d h s) (sym w.all) (record {
     parts = parts-of w.steps (omega arith);
     whole = λ i t small q inside r.
         let left = false-or (is_left o d (low_at h i) (high_at h i) (time s.from)) (λ e. left-out o (low_at h i) (high_at h i) (time s.from) t ok.0 q d inside.0 e r) in
@@ -144,4 +150,4 @@ module _ (o d : ℤ) (h : Header) (s : Stretch) (before after : List Seen) (ok :
         let p = place i small left in
         let there : is_entered_at o d h (time s.to) (at p.0) ≡ true = ap (λ j. is_entered_at o d h (time s.to) j) p.2 ∙ entered in
         subst (λ j. AnyByRecursion (λ (one : Seen). one.index ≡ j) (walked o d h s w.start w.steps)) p.2 (listed w.steps p.0 (reached p.0 p.1 there));
-  }
+  })

@@ -1,6 +1,5 @@
 -- A half has a binary digit less.
-use Rattle.std.proofs.Common.{◌≡◌, ℕ, zero, suc, ◌+◌, ◌-◌, ◌/◌, ◌<◌, ◌≤◌, refl, sym, ap, subst, ◌∙◌, arith, Bool, true, false, cond, nat_eq}
-use Rattle.std.specs.Prelude.{◌==◌, if◌then◌else◌}
+use Rattle.std.proofs.Common.{◌≡◌, ℕ, zero, suc, ◌+◌, ◌/◌, ◌<◌, ◌≤◌, refl, arith}
 use Rattle.gx_along.specs.Digits.{digits, digits_up_to}
 
 step : (f n : ℕ) → digits_up_to (suc f) (suc n) ≡ 1 + digits_up_to f (suc n / 2)

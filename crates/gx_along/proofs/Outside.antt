@@ -1,15 +1,13 @@
 -- A run that is left when a stretch begins, or isn't entered before it ends, has no point of the stretch.
-use Rattle.std.proofs.Common.{◌≡◌, [], ◌∷◌, ℕ, zero, suc, ◌+◌, ◌*◌, ◌<◌, ◌≤◌, ◌⊎◌, inl, inr, refl, sym, ap, subst, ◌∙◌, arith, ℤ, pos, negsuc, neg_ℤ, ◌+ℤ◌, ◌-ℤ◌, ◌*ℤ◌, ◌≤ℤ◌, ◌<ℤ◌, Bool, true, false}
-use Rattle.std.specs.Prelude.{unsigned_abs, int_lt, int_le, if◌then◌else◌}
+use Rattle.std.proofs.Common.{◌≡◌, [], ◌∷◌, ℕ, zero, suc, ◌*◌, ◌<◌, sym, ap, subst, ◌∙◌, arith, ℤ, pos, negsuc, ◌-ℤ◌, ◌*ℤ◌, ◌≤ℤ◌, ◌<ℤ◌, true, false}
+use Rattle.std.specs.Prelude.{int_lt, int_le, if◌then◌else◌}
 use Rattle.std.proofs.lemmas.Int.{ints, by_lt_z}
 use Rattle.gx_num.specs.Ray.{RayParameter}
-use Rattle.gx_num.specs.Ray.{IsBelow, IsUpTo, IsPositive}
-use Rattle.gx_num.proofs.Order.{apart, le_lt, lt_le}
+use Rattle.gx_num.specs.Ray.{IsBelow}
 use Rattle.gx_algebra.proofs.Order.{mul_pos, mul-le-left, mul-lt-left, le_of_mul-le-left}
 use Rattle.gx_algebra.proofs.Terms.{◌≣◌, ◌⊗◌}
 use Rattle.gx_algebra.proofs.Identity.{identity, number}
-use Rattle.gx_along.specs.declared.line.Stretch.{Stretch}
-use Rattle.gx_along.specs.Line.{time, near, far, is_left, is_entered, IsInRun, IsWithin, IsStretch}
+use Rattle.gx_along.specs.Line.{near, far, is_left, is_entered, IsInRun}
 use Rattle.gx_along.proofs.Stretches.{up-out, down-out, left-is, entered-is, pos-mul}
 
 -- ---- fractions

@@ -1,8 +1,6 @@
 -- A run is met within a stretch exactly where it isn't left when the stretch begins and is entered before the stretch ends; then the part of the stretch in it is a stretch.
-use Rattle.std.proofs.Common.{◌≡◌, ◌≢◌, ℕ, zero, suc, ◌+◌, ◌-◌, ◌*◌, ◌<◌, ◌≤◌, ◌⊎◌, inl, inr, refl, sym, ap, subst, ◌∙◌, arith, ℤ, pos, negsuc, ◌+ℤ◌, ◌-ℤ◌, ◌*ℤ◌, ◌≤ℤ◌, ◌<ℤ◌, Bool, true, false}
-use Rattle.std.specs.Prelude.{unsigned_abs, ◌==◌, int_lt, int_le, if◌then◌else◌}
-use Rattle.std.proofs.lemmas.Int.{ints, by_lt_z}
-use Rattle.gx_along.specs.declared.line.Time.{Time}
+use Rattle.std.proofs.Common.{◌≡◌, ℕ, refl, sym, ◌∙◌, arith, ℤ, Bool, true, false}
+use Rattle.std.specs.Prelude.{unsigned_abs, ◌==◌, if◌then◌else◌}
 use Rattle.gx_along.specs.declared.line.Stretch.{Stretch}
 use Rattle.gx_along.specs.Line.{near, far, above_zero, later, earlier, part_of}
 

@@ -1,5 +1,5 @@
 -- The runs of a header that stands for members: their bounds rise, and are small.
-use Rattle.std.proofs.Common.{◌≡◌, ℕ, zero, suc, ◌+◌, ◌*◌, ◌<◌, ◌≤◌, ◌^◌, inl, inr, refl, sym, ap, subst, ◌∙◌, arith, ℤ, pos, ◌+ℤ◌, ◌-ℤ◌, ◌≤ℤ◌, ◌<ℤ◌, Bool, true, false, cond, List, [], ◌∷◌, length, map, fold, get_or, unsigned_abs, Option, None, Some}
+use Rattle.std.proofs.Common.{◌≡◌, ℕ, zero, suc, ◌+◌, ◌*◌, ◌<◌, ◌≤◌, ◌^◌, inl, inr, refl, sym, ap, subst, ◌∙◌, arith, ℤ, pos, ◌+ℤ◌, ◌-ℤ◌, ◌≤ℤ◌, Bool, true, false, cond, List, [], ◌∷◌, length, map, fold, get_or, unsigned_abs, Option, None, Some}
 use Rattle.std.specs.Prelude.{◌==◌, int_lt}
 use Rattle.std.specs.List.{All}
 use Rattle.std.specs.Int.{int_min, int_max}
@@ -10,7 +10,7 @@ use Rattle.gx_voxel.specs.Members.{IsProper, reach}
 use Rattle.gx_voxel.specs.Cut.{Interval, Grid, SliceRun, Cut, interval_on, least, greatest, grid_of, bound_at, members_in, cut_of}
 use Rattle.gx_voxel.specs.Cells.{without}
 use Rattle.gx_voxel.specs.Laws.{IsOneOf}
-use Rattle.gx_voxel.specs.Proxy.{content_of, list_of, low_of, high_of, Alike, IsRun, StandsAs, StandsWithin}
+use Rattle.gx_voxel.specs.Proxy.{list_of, low_of, high_of, Alike, IsRun, StandsAs, StandsWithin}
 use Rattle.gx_voxel.specs.declared.proxy.Proxy.{Proxy}
 use Rattle.gx_voxel.specs.declared.proxy.Header.{Header}
 use Rattle.gx_voxel.specs.declared.proxy.Run.{Run}
@@ -67,9 +67,10 @@ module _ (Stands : Proxy → List ℕ → Type 0) (g : Grid) where
   rises some i n (h ∷ hs) (run ∷ runs) all turn zero (suc k) le l =
       let low : low_of h ≡ bound_at g run.first = all.0.low ∙ ap (λ r. r.low) turn.0.is in
       let high : high_of h ≡ bound_at g (run.last + 1) = all.0.high ∙ ap (λ r. r.high) turn.0.is in
-      let s = slices-at (run.last + 1) n hs runs all.1 turn.1 k (omega (arith, l)) in
-      (omega (arith, ints, low, s.low_is, bound-rises g some run.first s.first (omega (arith, turn.0.first, turn.0.last, s.from))),
-        omega (arith, ints, high, s.high_is, bound-rises g some (run.last + 1) (s.last + 1) (omega (arith, s.from, s.order))))
+      let s = slices-at (run.last + 1) n hs runs all.1 turn.1 k (omega (arith, l)) in (
+        omega (arith, ints, low, s.low_is, bound-rises g some run.first s.first (omega (arith, turn.0.first, turn.0.last, s.from))),
+        omega (arith, ints, high, s.high_is, bound-rises g some (run.last + 1) (s.last + 1) (omega (arith, s.from, s.order))),
+      )
   rises some i n (h ∷ hs) (run ∷ runs) all turn (suc j) zero le l = absurd (omega arith)
   rises some i n (h ∷ hs) (run ∷ runs) all turn (suc j) (suc k) le l = rises some (run.last + 1) n hs runs all.1 turn.1 j k (omega (arith, le)) (omega (arith, l))
 
@@ -135,18 +136,18 @@ small-cut : (at : ℕ → Extent) (ks axes : List ℕ) → All (λ k. IsProper (
 small-cut at ks axes proper cut e =
     let some = many at ks axes cut e in
     cut-is at ks IsSmallCut axes (λ axis one.
-      let on : ℕ → Interval = λ k. interval_on axis (at k) in
-      let small : (k : ℕ) → IsOneOf k ks → IsSmall reach (on k).low × IsSmall reach (on k).high = λ k one. interval-small axis (at k) (all-one (λ j. IsProper (at j)) ks k proper one) in
-      let low : IsSmall reach (grid_of on ks).low = least-small reach (λ k. (on k).low) ks (λ k one. (small k one).0) in
-      record {
-        grid = grid_of on ks;
-        some = grid-some at axis ks some proper;
-        few = omega arith;
-        wide = omega arith;
-        low = low;
-        span = difference (grid_of on ks).low (greatest (map (λ k. (on k).high) ks)) low (greatest-small reach (λ k. (on k).high) ks (λ k one. (small k one).1));
-        turn = runs-turn (grid_of on ks) NoFact (members_in on ks (grid_of on ks)) (λ i. tt) (grid_of on ks).count;
-      }) cut e
+    let on : ℕ → Interval = λ k. interval_on axis (at k) in
+    let small : (k : ℕ) → IsOneOf k ks → IsSmall reach (on k).low × IsSmall reach (on k).high = λ k one. interval-small axis (at k) (all-one (λ j. IsProper (at j)) ks k proper one) in
+    let low : IsSmall reach (grid_of on ks).low = least-small reach (λ k. (on k).low) ks (λ k one. (small k one).0) in
+    record {
+      grid = grid_of on ks;
+      some = grid-some at axis ks some proper;
+      few = omega arith;
+      wide = omega arith;
+      low = low;
+      span = difference (grid_of on ks).low (greatest (map (λ k. (on k).high) ks)) low (greatest-small reach (λ k. (on k).high) ks (λ k one. (small k one).1));
+      turn = runs-turn (grid_of on ks) NoFact (members_in on ks (grid_of on ks)) (λ i. tt) (grid_of on ks).count;
+    }) cut e
 
 module _ (Stands : Proxy → List ℕ → Type 0) (h : Header) (cut : Cut) (c : IsSmallCut cut) (all : Alike (IsRun Stands) (list_of h) cut.runs) where
   slices : (k : ℕ) → k < length (list_of h) → AreSlices Stands c.grid 0 c.grid.count (low_at h k) (high_at h k)
@@ -155,9 +156,10 @@ module _ (Stands : Proxy → List ℕ → Type 0) (h : Header) (cut : Cut) (c : 
   small-at : (i : ℕ) → IsSmall (2 ^ 31) (low_at h i) × IsSmall (2 ^ 31) (high_at h i)
   small-at i = elim (cases_lt i (length (list_of h))) [
     | inl l ↦
-        let s = slices i l in
-        (subst (IsSmall (2 ^ 31)) (sym s.low_is) (bound-small c.grid c.some c.low c.span s.first (omega (arith, s.order, s.to))),
-          subst (IsSmall (2 ^ 31)) (sym s.high_is) (bound-small c.grid c.some c.low c.span (s.last + 1) (omega (arith, s.to))))
+        let s = slices i l in (
+          subst (IsSmall (2 ^ 31)) (sym s.low_is) (bound-small c.grid c.some c.low c.span s.first (omega (arith, s.order, s.to))),
+          subst (IsSmall (2 ^ 31)) (sym s.high_is) (bound-small c.grid c.some c.low c.span (s.last + 1) (omega (arith, s.to))),
+        )
     | inr l ↦ (subst (IsSmall (2 ^ 31)) (sym (past low_of (list_of h) i l)) (omega arith), subst (IsSmall (2 ^ 31)) (sym (past high_of (list_of h) i l)) (omega arith))
   ]
 
@@ -171,7 +173,7 @@ module _ (Stands : Proxy → List ℕ → Type 0) (h : Header) (cut : Cut) (c : 
       count = omega (arith, alike-length Stands c.grid (list_of h) cut.runs all, turn-few c.grid NoFact 0 c.grid.count cut.runs c.turn, c.few);
     },
     λ i l. let s = slices i l in
-      omega (arith, ints, s.low_is, s.high_is, bound-next c.grid c.some c.wide s.first, bound-rises c.grid c.some (s.first + 1) (s.last + 1) (omega (arith, s.order)))
+        omega (arith, ints, s.low_is, s.high_is, bound-next c.grid c.some c.wide s.first, bound-rises c.grid c.some (s.first + 1) (s.last + 1) (omega (arith, s.order))),
   )
 
 pub headers-rise : HeadersRise

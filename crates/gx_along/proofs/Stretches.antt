@@ -1,16 +1,16 @@
 -- A run is met within a stretch exactly where it isn't left when the stretch begins and is entered before the stretch ends; then the part of the stretch in it is a stretch.
-use Rattle.std.proofs.Common.{◌≡◌, ℕ, zero, suc, ◌+◌, ◌-◌, ◌*◌, ◌<◌, ◌≤◌, ◌⊎◌, inl, inr, refl, sym, ap, subst, ◌∙◌, arith, ℤ, pos, negsuc, neg_ℤ, ◌+ℤ◌, ◌-ℤ◌, ◌*ℤ◌, ◌≤ℤ◌, ◌<ℤ◌, Bool, true, false, nat_lt}
-use Rattle.std.specs.Prelude.{unsigned_abs, int_lt, int_le, ◌==◌, if◌then◌else◌}
-use Rattle.std.proofs.lemmas.Int.{ints, by_lt_z}
+use Rattle.std.proofs.Common.{◌≡◌, ℕ, zero, suc, ◌*◌, ◌<◌, ◌≤◌, ◌⊎◌, inl, inr, refl, sym, ap, subst, ◌∙◌, arith, ℤ, pos, negsuc, neg_ℤ, ◌+ℤ◌, ◌-ℤ◌, ◌*ℤ◌, ◌≤ℤ◌, ◌<ℤ◌, Bool, true, false, nat_lt}
+use Rattle.std.specs.Prelude.{unsigned_abs, int_lt, int_le, if◌then◌else◌}
+use Rattle.std.proofs.lemmas.Int.{ints}
 use Rattle.gx_num.specs.Ray.{RayParameter}
-use Rattle.gx_num.specs.Ray.{IsBelow, IsUpTo, IsPositive}
-use Rattle.gx_num.proofs.Order.{le_lt, lt_le, le_le, above_positive, mediant, positive_mediant, above_mediant, below_mediant}
+use Rattle.gx_num.specs.Ray.{IsBelow, IsUpTo}
+use Rattle.gx_num.proofs.Order.{le_lt, lt_le, above_positive, mediant, positive_mediant, above_mediant, below_mediant}
 use Rattle.gx_algebra.proofs.Order.{mul-sub, mul-neg, mul-le-left, mul-lt-left}
 use Rattle.std.proofs.Math.Nat.{mul-lt-mul_of_pos_left}
 use Rattle.gx_along.proofs.Parts.{not-zero}
 use Rattle.gx_along.specs.declared.line.Time.{Time}
 use Rattle.gx_along.specs.declared.line.Stretch.{Stretch}
-use Rattle.gx_along.specs.Line.{time, near, far, above_zero, later, earlier, part_of, is_left, is_entered, IsInRun, IsWithin, IsStretch, IsMet, IsPart}
+use Rattle.gx_along.specs.Line.{time, near, far, above_zero, later, earlier, part_of, is_left, is_entered, IsWithin, IsStretch, IsMet, IsPart}
 
 -- ---- the later and the earlier of two
 later-cases : (a b : Time) → ((later a b ≡ b) × IsBelow (time a) (time b)) ⊎ ((later a b ≡ a) × IsUpTo (time b) (time a))

@@ -1,5 +1,5 @@
 -- Where a ray on one axis is in a half-open interval of coordinates.
-use Rattle.std.specs.Prelude.{◌≡◌, ◌↔◌, ◌≤◌, ◌<◌, ℕ, ◌*◌, nat_lt, ◌==◌, ℤ, pos, ◌-ℤ◌, ◌+ℤ◌, ◌*ℤ◌, ◌≤ℤ◌, ◌<ℤ◌, unsigned_abs, int_lt, int_le, Bool, true, false, if◌then◌else◌}
+use Rattle.std.specs.Prelude.{◌<◌, ℕ, ◌*◌, nat_lt, ◌==◌, ℤ, pos, ◌-ℤ◌, ◌+ℤ◌, ◌*ℤ◌, ◌≤ℤ◌, ◌<ℤ◌, unsigned_abs, int_lt, int_le, Bool, if◌then◌else◌}
 use Rattle.gx_num.specs.Ray.{RayParameter}
 use Rattle.gx_num.specs.Ray.{IsBelow, IsUpTo, IsPositive}
 use Rattle.gx_along.specs.declared.line.Time.{Time}

@@ -1,5 +1,5 @@
 -- The runs of a header as bounds.
-use Rattle.std.specs.Prelude.{◌≡◌, ◌≤◌, ◌<◌, ℕ, ℤ, pos, ◌≤ℤ◌, ◌<ℤ◌, unsigned_abs, ◌^◌, Bool, true, false, not, int_lt, if◌then◌else◌, List, length, map, get_or}
+use Rattle.std.specs.Prelude.{◌≤◌, ◌<◌, ℕ, ℤ, pos, ◌≤ℤ◌, ◌<ℤ◌, unsigned_abs, ◌^◌, Bool, not, int_lt, if◌then◌else◌, length, map, get_or}
 use Rattle.gx_num.specs.Ray.{RayParameter}
 use Rattle.gx_voxel.specs.declared.proxy.Header.{Header}
 use Rattle.gx_voxel.specs.Proxy.{list_of, low_of, high_of}

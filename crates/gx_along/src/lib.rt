@@ -7,5 +7,5 @@ mod runs;
 mod search;
 
 pub use line::{Bounds, Line, Stretch, Time, is_entered, is_left, part};
-pub use runs::{Seen, Visit, along};
+pub use runs::{Seen, along, index_of, left_of, step};
 pub use search::{first_left, read_bounds};

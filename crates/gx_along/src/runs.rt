@@ -1,10 +1,9 @@
-ghost use Rattle.std.specs.Prelude.{◌≡◌, ℕ, List, ◌∷◌, ◌<◌, ◌≤◌, ◌+◌, ◌^◌, true, false, length, unsigned_abs, MatchOption};
+ghost use Rattle.std.specs.Prelude.{◌≡◌, ℕ, List, ◌∷◌, ◌<◌, ◌≤◌, ◌+◌, ◌^◌, true, false, length, unsigned_abs, MatchOption, vec_capacity};
 ghost use Rattle.gx_along.specs.Digits.{digits};
 ghost use Rattle.gx_voxel.specs.Proxy.{list_of};
 ghost use Rattle.gx_along.specs.Line.{time, IsStretch};
 ghost use Rattle.gx_along.specs.Runs.{HasRuns, IsRising};
-ghost use Rattle.gx_along.specs.Along.{Walks, Goes, index_of, left_of, is_entered_at, part_at};
-ghost use Rattle.gx_along.specs.declared.runs.Seen.{Seen};
+ghost use Rattle.gx_along.specs.Along.{Walks, IsExact, index_of, left_of, is_entered_at, part_at};
 
 use crate::search::read_bounds;
 use crate::{Line, Stretch, first_left, is_entered, part};
@@ -19,17 +18,8 @@ pub struct Seen {
     pub part: Stretch,
 }
 
-/// What looks into runs.
-pub trait Visit {
-    /// The runs gone into, the last first.
-    ghost seen: { Self → List Seen };
-
-    fn visit(&mut self, one: Seen)
-        ensures { seen self.new ≡ one ∷ seen self.old };
-}
-
 /// How many runs are left along the ray.
-fn left_of(line: Line, count: u32, start: u32) -> u32
+pub fn left_of(line: Line, count: u32, start: u32) -> u32
     requires { start ≤ count }
     ensures { result ≡ left_of line.d count start }
 {
@@ -37,7 +27,7 @@ fn left_of(line: Line, count: u32, start: u32) -> u32
 }
 
 /// The j-th run along the ray.
-fn index_of(line: Line, count: u32, start: u32, j: u32) -> u32
+pub fn index_of(line: Line, count: u32, start: u32, j: u32) -> u32
     requires start { start ≤ count }
     requires j { j < left_of line.d count start }
     ensures value { result ≡ index_of line.d start j }
@@ -46,8 +36,8 @@ fn index_of(line: Line, count: u32, start: u32, j: u32) -> u32
     if line.d < 0 { start - 1 - j } else { start + j }
 }
 
-// A run, where the ray comes to it before the stretch ends.
-fn step<L: Ledger>(
+/// A run, where the ray comes to it before the stretch ends.
+pub fn step<L: Ledger>(
     header: &Header,
     line: Line,
     stretch: Stretch,
@@ -71,37 +61,43 @@ fn step<L: Ledger>(
     })
 }
 
-/// From run to run along the ray: into exactly the runs that are met, with at most one read more than these and those of the search.
-pub fn along<V: Visit, L: Ledger>(
+/// The runs that the ray has a point of the stretch in, in the order along the ray, each with its part of the stretch; with at most
+/// one read more than these and the binary digits of the number of runs.
+pub fn along<L: Ledger>(
     header: &Header,
     line: Line,
     stretch: Stretch,
-    visitor: &mut V,
+    seen: &mut Vec<Seen>,
     reads: &mut Steps<L>,
 )
     requires o { unsigned_abs line.o ≤ 2 ^ 31 }
     requires rising { IsRising header.now }
-    requires stretch { IsStretch stretch }
     requires has { HasRuns header.now }
-    ensures exact { Goes line.o line.d header.now stretch (V.seen visitor.old) (V.seen visitor.new) }
-    ensures reads { reads.new + length (V.seen visitor.old) ≤ reads.old + digits (length (list_of header.now)) + 1 + length (V.seen visitor.new) }
+    requires stretch { IsStretch stretch }
+    requires room { length (list_of header.now) ≤ vec_capacity seen.old }
+    ensures exact { IsExact line.o line.d header.now stretch seen.new.items }
+    ensures reads { reads.new ≤ reads.old + digits (length (list_of header.now)) + 1 + length seen.new.items }
+    ensures room { vec_capacity seen.new ≡ vec_capacity seen.old }
 {
-    go(header, line, stretch, visitor, reads)
+    go(header, line, stretch, seen, reads)
 }
 
-fn go<V: Visit, L: Ledger>(
+fn go<L: Ledger>(
     header: &Header,
     line: Line,
     stretch: Stretch,
-    visitor: &mut V,
+    seen: &mut Vec<Seen>,
     reads: &mut Steps<L>,
 )
     requires o { unsigned_abs line.o ≤ 2 ^ 31 }
     requires rising { IsRising header.now }
     requires stretch { IsStretch stretch }
-    ensures walks { Walks line.o line.d header.now stretch (V.seen visitor.old) (V.seen visitor.new) }
-    ensures reads { reads.new + length (V.seen visitor.old) ≤ reads.old + digits (length (list_of header.now)) + 1 + length (V.seen visitor.new) }
+    requires room { length (list_of header.now) ≤ vec_capacity seen.old }
+    ensures walks { Walks line.o line.d header.now stretch seen.new.items }
+    ensures reads { reads.new ≤ reads.old + digits (length (list_of header.now)) + 1 + length seen.new.items }
+    ensures room { vec_capacity seen.new ≡ vec_capacity seen.old }
 {
+    seen.clear();
     let count = header.run_count();
     let start = first_left(header, line, stretch.from, reads);
     let left = left_of(line, count, start);
@@ -109,7 +105,7 @@ fn go<V: Visit, L: Ledger>(
         let i = index_of(line, count, start, j);
         match step(header, line, stretch, i, reads) {
             None => return,
-            Some(one) => visitor.visit(one),
+            Some(one) => seen.push_reserved(one),
         }
     }
 }

@@ -1,5 +1,4 @@
-use Rattle.std.proofs.Common.{◌≡◌, ◌+◌, ◌-◌, ◌/◌, ◌<◌, ◌≤◌, arith, sym, ◌∙◌, length}
-use Rattle.gx_voxel.specs.Proxy.{list_of}
+use Rattle.std.proofs.Common.{◌+◌, ◌-◌, ◌/◌, ◌<◌, ◌≤◌, arith, sym, ◌∙◌}
 use Rattle.gx_along.specs.Digits.{digits}
 use Rattle.gx_along.specs.Line.{time}
 use Rattle.gx_along.proofs.Before.{up, down}
