@@ -1,5 +1,5 @@
 -- Going from run to run goes into exactly the runs that are met.
-use Rattle.std.proofs.Common.{◌≡◌, ℕ, zero, suc, ◌+◌, ◌-◌, ◌*◌, ◌<◌, ◌≤◌, inl, inr, refl, sym, ap, subst, ◌∙◌, arith, ℤ, pos, ◌-ℤ◌, ◌*ℤ◌, ◌≤ℤ◌, Bool, true, false, not, List, [], ◌∷◌, ◌++◌, length}
+use Rattle.std.proofs.Common.{◌≡◌, ℕ, zero, suc, ◌+◌, ◌-◌, ◌*◌, ◌<◌, ◌≤◌, inl, inr, refl, sym, ap, subst, ◌∙◌, arith, ℤ, pos, ◌-ℤ◌, ◌*ℤ◌, ◌≤ℤ◌, Bool, true, false, not, List, [], ◌∷◌, ◌++◌, length, length-append, get_or}
 use Rattle.std.specs.Prelude.{int_lt, int_le, if◌then◌else◌, unsigned_abs, ◌==◌}
 use Rattle.std.specs.List.{AllByRecursion}
 use Rattle.std.proofs.lemmas.Bool.{cases_lt}
@@ -13,7 +13,9 @@ use Rattle.gx_along.specs.declared.line.Stretch.{Stretch}
 use Rattle.gx_along.specs.declared.runs.Seen.{Seen}
 use Rattle.gx_along.specs.Line.{time, near, is_left, is_entered, IsStretch, IsPart}
 use Rattle.gx_along.specs.Runs.{IsRising, HasRuns, is_run_before, is_before, low_at, high_at}
-use Rattle.gx_along.specs.Along.{Walks, IsExact, index_of, left_of, is_entered_at, walked}
+use Rattle.gx_along.specs.Along.{Walks, IsExact, index_of, left_of, is_entered_at, part_at, walked}
+use Rattle.std.proofs.lemmas.List.{get_or_append_left}
+use Rattle.std.proofs.Math.Seq.{get_or-append_seam}
 use Rattle.gx_voxel.proofs.Elements.{any-left, any-right}
 use Rattle.gx_along.proofs.Stretches.{part-is-part}
 use Rattle.gx_along.proofs.Outside.{left-out, entered-out}
@@ -141,8 +143,27 @@ module _ (o d : ℤ) (h : Header) (s : Stretch) (seen : List Seen) (ok : IsStret
     ]
   ]
 
+  length-walked : (k : ℕ) → length (walked o d h s w.start k) ≡ k
+  length-walked zero = refl
+  length-walked (suc k) = omega (arith, length-append (walked o d h s w.start k) (record { index = at k; part = part_at o d h s (at k) } ∷ []), length-walked k)
+
+  walked-at : (k m : ℕ) (x : Seen) → m < k → (get_or (walked o d h s w.start k) m x).index ≡ at m
+  walked-at zero m x less = absurd (omega arith)
+  walked-at (suc k) m x less =
+      let one : Seen = record { index = at k; part = part_at o d h s (at k) } in
+      elim (cases_lt m k) [
+        | inl l ↦ ap (λ r. r.index) (get_or_append_left (walked o d h s w.start k) (one ∷ []) x m (omega (arith, length-walked k))) ∙ walked-at k m x l
+        | inr l ↦
+            let e : length (walked o d h s w.start k) ≡ m = omega (arith, length-walked k) in
+            let f : k ≡ m = omega arith in
+            ap (λ r. r.index) (ap (λ n. get_or (walked o d h s w.start k ++ one ∷ []) n x) (sym e) ∙ get_or-append_seam (walked o d h s w.start k) one [] x) ∙ ap at f
+      ]
+
   pub exact : IsExact o d h s seen
   exact = subst (IsExact o d h s) (sym w.all) (record {
+    start = w.start;
+    few = omega (arith, length-walked w.steps, w.within);
+    order = λ m x l. walked-at w.steps m x (omega (arith, length-walked w.steps));
     parts = parts-of w.steps (omega arith);
     whole = λ i t small q inside r.
         let left = false-or (is_left o d (low_at h i) (high_at h i) (time s.from)) (λ e. left-out o (low_at h i) (high_at h i) (time s.from) t ok.0 q d inside.0 e r) in

@@ -10,7 +10,7 @@ use Rattle.std.proofs.Math.Nat.{mul-lt-mul_of_pos_left}
 use Rattle.gx_along.proofs.Parts.{not-zero}
 use Rattle.gx_along.specs.declared.line.Time.{Time}
 use Rattle.gx_along.specs.declared.line.Stretch.{Stretch}
-use Rattle.gx_along.specs.Line.{time, near, far, above_zero, later, earlier, part_of, is_left, is_entered, IsWithin, IsStretch, IsMet, IsPart}
+use Rattle.gx_along.specs.Line.{time, near, far, above_zero, later, earlier, part_of, is_left, is_entered, IsWithin, IsStretch, IsPart}
 
 -- ---- the later and the earlier of two
 later-cases : (a b : Time) → ((later a b ≡ b) × IsBelow (time a) (time b)) ⊎ ((later a b ≡ a) × IsUpTo (time b) (time a))
@@ -246,12 +246,3 @@ pub part-is-part : (o d low high : ℤ) (s : Stretch) → IsStretch s → low <�
 part-is-part o (pos zero) low high s ok less left entered = part-rest o low high s ok less left entered
 part-is-part o (pos (suc n)) low high s ok less left entered = part-up o low high s ok less n left entered
 part-is-part o (negsuc n) low high s ok less left entered = part-down o low high s ok less n left entered
-
--- so the run is met
-pub part-met : (o d low high : ℤ) (s part : Stretch) → IsPart o d low high s part → IsMet o d low high s
-part-met o d low high s part p =
-    let a = time part.from in let b = time part.to in
-    let t = mediant a b in
-    let positive = positive_mediant a b p.stretch.0 p.stretch.2 in
-    let i = p.inside t positive.1 (above_mediant a b p.stretch.2, below_mediant a b p.stretch.2) in
-    (t, positive, i.0, i.1)

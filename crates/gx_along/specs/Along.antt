@@ -1,5 +1,5 @@
 -- What going from run to run along a ray does.
-use Rattle.std.specs.Prelude.{◌≡◌, ◌⊎◌, ◌≤◌, ◌<◌, ◌+◌, ◌-◌, ℕ, zero, suc, ℤ, pos, int_lt, Bool, true, false, if◌then◌else◌, List, [], ◌∷◌, ◌++◌, length}
+use Rattle.std.specs.Prelude.{◌≡◌, ◌⊎◌, ◌≤◌, ◌<◌, ◌+◌, ◌-◌, ℕ, zero, suc, ℤ, pos, int_lt, Bool, true, false, if◌then◌else◌, List, [], ◌∷◌, ◌++◌, length, get_or}
 use Rattle.std.specs.List.{AllByRecursion}
 use Rattle.gx_num.specs.Ray.{RayParameter}
 use Rattle.gx_voxel.specs.Laws.{AnyByRecursion}
@@ -40,7 +40,10 @@ pub record Walks (o d : ℤ) (h : Header) (s : Stretch) (seen : List Seen) : Typ
   pub entered : (m : ℕ) → m < steps → is_entered_at o d h (time s.to) (index_of d start m) ≡ true
   pub done : (steps ≡ left_of d (length (list_of h)) start) ⊎ (is_entered_at o d h (time s.to) (index_of d start steps) ≡ false)
 
--- The runs gone into are exactly those that are met: the part of the stretch in each of these, and each run that has a point of the stretch.
+-- Exactly the runs that have a point of the stretch, one after another along the ray from a first one on, each with its part of the stretch.
 pub record IsExact (o d : ℤ) (h : Header) (s : Stretch) (seen : List Seen) : Type 0 where
+  pub start : ℕ
+  pub few : length seen ≤ left_of d (length (list_of h)) start
+  pub order : (m : ℕ) (x : Seen) → m < length seen → (get_or seen m x).index ≡ index_of d start m
   pub parts : AllByRecursion (λ one. (one.index < length (list_of h)) × IsPart o d (low_at h one.index) (high_at h one.index) s one.part) seen
   pub whole : (i : ℕ) (t : RayParameter) → i < length (list_of h) → 0 < t.den → IsWithin s t → IsInRun o d (low_at h i) (high_at h i) t → AnyByRecursion (λ (one : Seen). one.index ≡ i) seen

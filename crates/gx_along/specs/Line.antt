@@ -50,10 +50,6 @@ IsWithin s t = IsBelow (time s.from) t × IsBelow t (time s.to)
 abbrev pub IsStretch : Stretch → Type 0
 IsStretch s = (0 < s.from.den) × (0 < s.to.den) × IsBelow (time s.from) (time s.to)
 
--- a run is met within a stretch
-abbrev pub IsMet : ℤ → ℤ → ℤ → ℤ → Stretch → Type 0
-IsMet o d low high s = (t : RayParameter) × IsPositive t × IsWithin s t × IsInRun o d low high t
-
 -- the part of a stretch in which a ray is in a run: all its points are in the run, and the stretch has no other but at the ends of the part
 pub record IsPart (o d low high : ℤ) (s part : Stretch) : Type 0 where
   pub stretch : IsStretch part
