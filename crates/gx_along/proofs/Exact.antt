@@ -13,7 +13,8 @@ use Rattle.gx_along.specs.declared.line.Stretch.{Stretch}
 use Rattle.gx_along.specs.declared.runs.Seen.{Seen}
 use Rattle.gx_along.specs.Line.{time, near, is_left, is_entered, IsStretch, IsPart}
 use Rattle.gx_along.specs.Runs.{IsRising, HasRuns, is_run_before, is_before, low_at, high_at}
-use Rattle.gx_along.specs.Along.{Walks, IsExact, index_of, left_of, is_entered_at, part_at, walked}
+use Rattle.gx_along.specs.Along.{IsExact, index_of, left_of, is_entered_at, part_at}
+use Rattle.gx_along.specs.Walked.{Walks, walked}
 use Rattle.std.proofs.lemmas.List.{get_or_append_left}
 use Rattle.std.proofs.Math.Seq.{get_or-append_seam}
 use Rattle.gx_voxel.proofs.Elements.{any-left, any-right}

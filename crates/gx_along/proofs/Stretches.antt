@@ -4,7 +4,7 @@ use Rattle.std.specs.Prelude.{unsigned_abs, int_lt, int_le, if◌then◌else◌}
 use Rattle.std.proofs.lemmas.Int.{ints}
 use Rattle.gx_num.specs.Ray.{RayParameter}
 use Rattle.gx_num.specs.Ray.{IsBelow, IsUpTo}
-use Rattle.gx_num.proofs.Order.{le_lt, lt_le, above_positive, mediant, positive_mediant, above_mediant, below_mediant}
+use Rattle.gx_num.proofs.Order.{le_lt, lt_le, above_positive}
 use Rattle.gx_algebra.proofs.Order.{mul-sub, mul-neg, mul-le-left, mul-lt-left}
 use Rattle.std.proofs.Math.Nat.{mul-lt-mul_of_pos_left}
 use Rattle.gx_along.proofs.Parts.{not-zero}

@@ -3,3 +3,4 @@ pub mod Digits
 pub mod Laws
 pub mod Line
 pub mod Runs
+pub mod Walked

@@ -1,14 +1,15 @@
 -- Where a ray on one axis is in a half-open interval of coordinates.
 use Rattle.std.specs.Prelude.{◌<◌, ℕ, ◌*◌, nat_lt, ◌==◌, ℤ, pos, ◌-ℤ◌, ◌+ℤ◌, ◌*ℤ◌, ◌≤ℤ◌, ◌<ℤ◌, unsigned_abs, int_lt, int_le, Bool, if◌then◌else◌}
 use Rattle.gx_num.specs.Ray.{RayParameter}
-use Rattle.gx_num.specs.Ray.{IsBelow, IsUpTo, IsPositive}
+use Rattle.gx_num.specs.Ray.{IsBelow, IsUpTo}
 use Rattle.gx_along.specs.declared.line.Time.{Time}
 use Rattle.gx_along.specs.declared.line.Stretch.{Stretch}
 
+-- a time as a parameter
 abbrev pub time : Time → RayParameter
 time t = record { num = t.num; den = t.den }
 
--- how far along its direction a ray comes to a run, and how far along it leaves it
+-- how far along its direction a ray from o along d comes to a run, and how far along it leaves it, in steps
 abbrev pub near : ℤ → ℤ → ℤ → ℤ → ℤ
 near o d low high = if int_lt d (pos 0) then o -ℤ high else low -ℤ o
 
@@ -23,6 +24,7 @@ is_left o d low high t = int_le (far o d low high *ℤ pos t.den) (pos (t.num * 
 unfoldable pub is_entered : ℤ → ℤ → ℤ → ℤ → RayParameter → Bool
 is_entered o d low high t = if unsigned_abs d == 0 then int_le (near o d low high) (pos 0) else int_lt (near o d low high *ℤ pos t.den) (pos (t.num * unsigned_abs d))
 
+-- the later of two times, and the earlier; of equal ones the first
 unfoldable pub later : Time → Time → Time
 later a b = if nat_lt (a.num * b.den) (b.num * a.den) then b else a
 
@@ -44,9 +46,11 @@ part_of o d low high s = if unsigned_abs d == 0 then s else record {
 abbrev pub IsInRun : ℤ → ℤ → ℤ → ℤ → RayParameter → Type 0
 IsInRun o d low high t = ((low *ℤ pos t.den) ≤ℤ (pos t.den *ℤ o +ℤ pos t.num *ℤ d)) × ((pos t.den *ℤ o +ℤ pos t.num *ℤ d) <ℤ (high *ℤ pos t.den))
 
+-- strictly between the ends of a stretch
 abbrev pub IsWithin : Stretch → RayParameter → Type 0
 IsWithin s t = IsBelow (time s.from) t × IsBelow t (time s.to)
 
+-- from a time to a later one
 abbrev pub IsStretch : Stretch → Type 0
 IsStretch s = (0 < s.from.den) × (0 < s.to.den) × IsBelow (time s.from) (time s.to)
 

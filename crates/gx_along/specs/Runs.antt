@@ -5,6 +5,7 @@ use Rattle.gx_voxel.specs.declared.proxy.Header.{Header}
 use Rattle.gx_voxel.specs.Proxy.{list_of, low_of, high_of}
 use Rattle.gx_along.specs.Line.{is_left}
 
+-- where the run at a place begins, and where it ends
 abbrev pub low_at : Header → ℕ → ℤ
 low_at h i = get_or (map low_of (list_of h)) i (pos 0)
 
@@ -23,6 +24,7 @@ pub record IsRising (h : Header) : Type 0 where
 unfoldable pub is_run_before : ℤ → ℤ → ℤ → ℤ → RayParameter → Bool
 is_run_before o d low high t = if int_lt d (pos 0) then not (is_left o d low high t) else is_left o d low high t
 
+-- the run at a place is one of them
 abbrev pub is_before : ℤ → ℤ → Header → RayParameter → ℕ → Bool
 is_before o d h t i = is_run_before o d (low_at h i) (high_at h i) t
 

@@ -5,6 +5,8 @@ pub mod laws;
 mod line;
 mod runs;
 mod search;
+#[cfg(test)]
+mod tests;
 
 pub use line::{Bounds, Line, Stretch, Time, is_entered, is_left, part};
 pub use runs::{Seen, along, index_of, left_of, step};

@@ -3,7 +3,8 @@ ghost use Rattle.gx_along.specs.Digits.{digits};
 ghost use Rattle.gx_voxel.specs.Proxy.{list_of};
 ghost use Rattle.gx_along.specs.Line.{time, IsStretch};
 ghost use Rattle.gx_along.specs.Runs.{HasRuns, IsRising};
-ghost use Rattle.gx_along.specs.Along.{Walks, IsExact, index_of, left_of, is_entered_at, part_at};
+ghost use Rattle.gx_along.specs.Walked.{Walks};
+ghost use Rattle.gx_along.specs.Along.{IsExact, index_of, left_of, is_entered_at, part_at};
 
 use crate::search::read_bounds;
 use crate::{Line, Stretch, first_left, is_entered, part};

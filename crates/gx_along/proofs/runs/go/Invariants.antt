@@ -2,7 +2,8 @@ use Rattle.std.proofs.Common.{◌≡◌, ℕ, ◌+◌, ◌<◌, ◌≤◌, true,
 use Rattle.gx_voxel.specs.Proxy.{list_of}
 use Rattle.gx_along.specs.Digits.{digits}
 use Rattle.gx_along.specs.Line.{time}
-use Rattle.gx_along.specs.Along.{walked, is_entered_at, index_of}
+use Rattle.gx_along.specs.Along.{is_entered_at, index_of}
+use Rattle.gx_along.specs.Walked.{walked}
 use Rattle.gx_along.proofs.runs.go.Given as goal
 
 abbrev pub invariant-loop-j : goal.invariant-loop-j
