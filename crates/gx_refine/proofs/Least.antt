@@ -1,5 +1,5 @@
 -- The least and the greatest of some numbers, from the first on.
-use Rattle.std.proofs.Common.{◌≡◌, ℕ, ◌<◌, ℤ, refl, sym, ap, ◌∙◌, arith, Bool, true, false, cond, List, [], ◌∷◌, length, map, fold, slice_index}
+use Rattle.std.proofs.Common.{◌≡◌, ℕ, ◌<◌, ℤ, refl, ap, ◌∙◌, arith, Bool, true, false, cond, List, [], ◌∷◌, length, map, fold, slice_index}
 use Rattle.std.specs.Prelude.{int_lt}
 use Rattle.std.specs.Int.{int_min, int_max}
 use Rattle.std.proofs.lemmas.List.Folds.{fold-map}

@@ -1,5 +1,5 @@
 -- What is known of the runs of known members.
-use Rattle.std.proofs.Common.{◌≡◌, ℕ, ◌+◌, ◌<◌, ◌≤◌, sym, subst, arith, ◌<ℤ◌, Bool, List, length, filter}
+use Rattle.std.proofs.Common.{ℕ, ◌+◌, ◌<◌, ◌≤◌, sym, subst, arith, ◌<ℤ◌, Bool, List, length, filter}
 use Rattle.std.specs.List.{All}
 use Rattle.std.proofs.lemmas.Int.{ints}
 use Rattle.std.proofs.lemmas.List.Kept.{IsStrictlyIncreasing-filter}
@@ -9,7 +9,7 @@ use Rattle.gx_num.specs.declared.extent.Extent.{Extent}
 use Rattle.gx_voxel.specs.Members.{IsProper, extent_at}
 use Rattle.gx_voxel.specs.Cut.{Grid, SliceRun, grid_of, bound_at, members_in, runs_on}
 use Rattle.gx_voxel.proofs.Slices.{bound-rises, bound-next}
-use Rattle.gx_voxel.proofs.Grown.{IsPiece, InTurn, runs-turn, turn-few, turn-each}
+use Rattle.gx_voxel.proofs.Grown.{InTurn, runs-turn, turn-few, turn-each}
 use Rattle.gx_voxel.proofs.Standing.{grid-some}
 use Rattle.gx_refine.specs.Known.{AreKnown, IsPart, AreParts, along}
 

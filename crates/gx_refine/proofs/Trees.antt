@@ -1,19 +1,18 @@
 -- From the runs of a cut to the tree that stands for them.
-use Rattle.std.proofs.Common.{◌≡◌, ◌⊎◌, inl, inr, ℕ, zero, suc, ◌+◌, ◌-◌, ◌<◌, ◌≤◌, List, [], ◌∷◌, ◌++◌, length, get_or, take, Option, None, Some, Result, Ok, Err, refl, sym, subst, ap, ◌∙◌, arith, take_all, slice_index}
+use Rattle.std.proofs.Common.{◌≡◌, inl, inr, ℕ, zero, suc, ◌+◌, ◌<◌, ◌≤◌, List, [], ◌∷◌, ◌++◌, length, get_or, take, Option, None, Some, Result, Ok, Err, sym, subst, ◌∙◌, arith, take_all, slice_index}
 use Rattle.std.specs.Prelude.{IfOk}
 use Rattle.std.specs.List.{All, range_with_len}
 use Rattle.std.proofs.lemmas.List.FromFn.{length-range_with_len, get_or-range_with_len}
 use Rattle.gx_num.specs.declared.extent.Extent.{Extent}
 use Rattle.gx_voxel.specs.Members.{IsProper, extent_at}
-use Rattle.gx_voxel.specs.Cut.{Grid, SliceRun, Cut, cut_of, grid_of}
+use Rattle.gx_voxel.specs.Cut.{SliceRun, Cut, cut_of}
 use Rattle.gx_voxel.specs.Cells.{without}
-use Rattle.gx_voxel.specs.Laws.{IsOneOf}
 use Rattle.gx_voxel.specs.Proxy.{content_of, axis_of, list_of, Alike, IsRun, StandsAs, StandsWithin}
 use Rattle.gx_voxel.specs.declared.proxy.Proxy.{Proxy}
 use Rattle.gx_voxel.specs.declared.proxy.Header.{Header}
 use Rattle.gx_voxel.specs.declared.proxy.Run.{Run}
 use Rattle.gx_voxel.proofs.Standing.{IsCut, is-cut}
-use Rattle.gx_refine.specs.Known.{AreKnown, IsPart, AreParts, along}
+use Rattle.gx_refine.specs.Known.{AreKnown, IsPart}
 use Rattle.gx_refine.proofs.Parts.{known-filter, known-proper, turn-parts}
 
 pub if_ok-map : {T E : Type 0} (P Q : T → Type 0) (r : Result T E) → ((x : T) → P x → Q x) → IfOk r P → IfOk r Q

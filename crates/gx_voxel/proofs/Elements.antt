@@ -17,11 +17,11 @@ module _ {X : Type 0} (P : X → Type 0) where
   any-map Q f (x ∷ xs) (inl h) = inl (f x h)
   any-map Q f (x ∷ xs) (inr h) = inr (any-map Q f xs h)
 
-  any-right : (xs ys : List X) → AnyByRecursion P ys → AnyByRecursion P (xs ++ ys)
+  pub any-right : (xs ys : List X) → AnyByRecursion P ys → AnyByRecursion P (xs ++ ys)
   any-right [] ys h = h
   any-right (x ∷ xs) ys h = inr (any-right xs ys h)
 
-  any-left : (xs ys : List X) → AnyByRecursion P xs → AnyByRecursion P (xs ++ ys)
+  pub any-left : (xs ys : List X) → AnyByRecursion P xs → AnyByRecursion P (xs ++ ys)
   any-left [] ys h = absurd h
   any-left (x ∷ xs) ys (inl h) = inl h
   any-left (x ∷ xs) ys (inr h) = inr (any-left xs ys h)

@@ -1,15 +1,13 @@
 -- The cut of members, and the runs of a header that stands for them.
-use Rattle.std.proofs.Common.{◌≡◌, ℕ, zero, suc, ◌+◌, ◌<◌, ◌≤◌, inl, inr, refl, sym, subst, ◌∙◌, arith, ◌<ℤ◌, Bool, true, false, List, [], ◌∷◌, length, filter, Option, None, Some, cond}
+use Rattle.std.proofs.Common.{◌≡◌, ℕ, zero, suc, ◌<◌, ◌≤◌, inl, refl, subst, arith, ◌<ℤ◌, Bool, true, false, List, [], ◌∷◌, length, filter, Option, None, Some, cond}
 use Rattle.std.specs.Prelude.{◌==◌}
 use Rattle.std.specs.List.{All}
 use Rattle.gx_num.specs.declared.extent.Extent.{Extent}
 use Rattle.gx_voxel.specs.Members.{IsProper}
-use Rattle.gx_voxel.specs.Cut.{Interval, Grid, SliceRun, Cut, interval_on, grid_of, members_in, cut_of}
+use Rattle.gx_voxel.specs.Cut.{Interval, Grid, Cut, interval_on, grid_of, members_in, cut_of}
 use Rattle.gx_voxel.specs.Cells.{without}
-use Rattle.gx_voxel.specs.Proxy.{content_of, list_of, AreRuns, StandsAs, StandsWithin}
+use Rattle.gx_voxel.specs.Proxy.{list_of, AreRuns, StandsAs, StandsWithin}
 use Rattle.gx_voxel.specs.Laws.{IsOneOf, HeadersHaveRuns}
-use Rattle.gx_voxel.specs.declared.proxy.Proxy.{Proxy}
-use Rattle.gx_voxel.specs.declared.proxy.Header.{Header}
 use Rattle.gx_voxel.proofs.Elements.{cut-is}
 use Rattle.gx_voxel.proofs.Slices.{count-some}
 use Rattle.gx_voxel.proofs.Grown.{InTurn, runs-turn, turn-runs}

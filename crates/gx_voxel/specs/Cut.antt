@@ -38,6 +38,7 @@ pub record Grid : Type 0 where
 abbrev pub grid_over : ℤ → ℤ → ℕ → Grid
 grid_over low high members = record { low = low; span = unsigned_abs (high -ℤ low); count = min (min (2 * members) 1000) (unsigned_abs (high -ℤ low)) }
 
+-- the slices of members whose intervals on the axis are given by their numbers
 abbrev pub grid_of : (ℕ → Interval) → List ℕ → Grid
 grid_of on ks = grid_over (least (map (λ k. (on k).low) ks)) (greatest (map (λ k. (on k).high) ks)) (length ks)
 
@@ -61,6 +62,7 @@ pub record SliceRun : Type 0 where
   pub high : ℤ
   pub members : List ℕ
 
+-- the run of slices of a grid, with its bounds
 abbrev pub run_of : Grid → ℕ → ℕ → List ℕ → SliceRun
 run_of grid first last ks = record { first = first; last = last; low = bound_at grid first; high = bound_at grid (last + 1); members = ks }
 
@@ -91,6 +93,7 @@ pub record Cut : Type 0 where
   pub axis : ℕ
   pub runs : List SliceRun
 
+-- the members cut apart along an axis, worth it or not
 abbrev pub cut_along : (ℕ → Extent) → List ℕ → ℕ → Cut
 cut_along at ks axis = record { axis = axis; runs = runs_on (λ k. interval_on axis (at k)) ks }
 

@@ -1,4 +1,4 @@
-use Rattle.std.proofs.Common.{◌≡◌, sym, ap, ◌∙◌, subst, length, nat_lt, true, false, cond, None, arith, take, take_all}
+use Rattle.std.proofs.Common.{◌≡◌, sym, ap, ◌∙◌, subst, length, nat_lt, true, false, cond, None, take, take_all}
 use Rattle.std.proofs.lemmas.Bool.{lt-ltb, le-ltb}
 use Rattle.gx_voxel.specs.Members.{extent_at}
 use Rattle.gx_voxel.specs.Cut.{cut_of, best_of}
