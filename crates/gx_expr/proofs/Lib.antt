@@ -1,9 +1,9 @@
+pub mod Names
 pub mod Casts
 pub mod Derivations
 pub mod Descent
 pub mod DigitValues
 pub mod Leaves
-pub mod Names
 pub mod Numbers
 pub mod Tokens
 pub mod PlainWords

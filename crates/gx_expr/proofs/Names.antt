@@ -1,23 +1,61 @@
--- The list of parameters that a map's entries are.
-use Rattle.std.proofs.Common.{◌≡◌, ℕ, List, [], ◌∷◌, ◌++◌, map, cond, None, Some, refl, sym, ap, ◌∙◌}
-use Rattle.std.proofs.lemmas.List.{map-append}
-use Rattle.std.specs.Map.{lookup}
+-- Names with their values, as a list of parameters.
+use Rattle.std.proofs.Common.{◌≡◌, ℕ, suc, ◌+◌, Bool, true, false, not, nat_lt, List, [], ◌∷◌, ◌++◌, length, cond, Option, Some, None, is_some, inl, inr, refl, sym, ap, ◌∙◌, true≢false, arith, Bor}
+use Rattle.std.specs.Slice.{IsItemAt}
+use Rattle.std.specs.Prelude.{slice_get}
+use Rattle.std.specs.List.{position_or_len}
+use Rattle.std.specs.Option.{option_and_then, option_copied}
 use Rattle.std.specs.Str.{bytes_eq}
-use Rattle.gx_expr.specs.declared.value.Value.{Value}
-use Rattle.gx_expr.specs.Param.{Param, value_of_name, given, with_param}
+use Rattle.std.proofs.lemmas.List.Quantifiers.{position-Some}
+use Rattle.std.proofs.lemmas.Bool.{lt-ltb}
+use Rattle.std.proofs.lemmas.Option.{slice_get_cases, slice_get_past, slice_get-get_or}
+use Prim.Native.Nat.compare
+use lib.Dec.{is_le}
+use Rattle.gx_names.specs.Names.{number_of}
+use Rattle.gx_expr.specs.Quantity.{Quantity}
+use Rattle.gx_expr.specs.Param.{params_of, value_of_name}
 
-module _ {K : Type 0} (items : K → List ℕ) where
-  abbrev pub params_of : List (K × Value) → List Param
-  params_of es = map (λ e. record { name = items e.0; value = e.1 }) es
+-- what stands at a place, past the first
+later : (p l : ℕ) (value : Quantity) (values : List Quantity) → option_and_then (slice_get (value ∷ values)) (cond (nat_lt (1 + p) (suc l)) (Some (1 + p)) None) ≡ option_and_then (slice_get values) (cond (nat_lt p l) (Some p) None)
+later p l value values =
+    let one : 1 + p ≡ suc p = omega arith in
+    let less : nat_lt (suc p) (suc l) ≡ nat_lt p l = ap is_le (compare.suc-suc (suc p) l) in
+    ap (λ k. option_and_then (slice_get (value ∷ values)) (cond (nat_lt k (suc l)) (Some k) None)) one ∙ ap (λ b. option_and_then (slice_get (value ∷ values)) (cond b (Some (suc p)) None)) less ∙ both (nat_lt p l)
+  where
+    both : (b : Bool) → option_and_then (slice_get (value ∷ values)) (cond b (Some (suc p)) None) ≡ option_and_then (slice_get values) (cond b (Some p) None)
+    both true = refl
+    both false = refl
 
-  pub value_of_name-params_of : (name : List ℕ) (es : List (K × Value)) → value_of_name (params_of es) name ≡ lookup (λ k. bytes_eq name (items k)) es
-  value_of_name-params_of name [] = refl
-  value_of_name-params_of name (e ∷ es) = ap (λ r. cond (bytes_eq name (items e.0)) (Some e.1) r) (value_of_name-params_of name es)
+pub value_at_number : (names : List (List ℕ)) (values : List Quantity) (name : List ℕ) → length names ≡ length values → value_of_name (params_of names values) name ≡ option_and_then (slice_get values) (number_of names name)
+value_at_number [] values name long = refl
+value_at_number (n ∷ names) [] name long = absurd (omega (arith, long))
+value_at_number (n ∷ names) (value ∷ values) name long = by (bytes_eq name n) (value_at_number names values name (omega (arith, long)))
+  where
+    place : ℕ
+    place = position_or_len (bytes_eq name) names
 
--- a new name goes last
-pub defined : {K : Type 0} (items : K → List ℕ) (es new : List (K × Value)) (old : List Param) (key : K) (name : List ℕ) (value : Value)
-    → params_of items es ≡ old → items key ≡ name → new ≡ es ++ (key, value) ∷ [] → value_of_name old name ≡ None → with_param old name value ≡ Some (params_of items new)
-defined items es new old key name value view is whole none =
-    let last : record { name = items key; value = value } ≡ record { name = name; value = value } = ap (λ n. record { name = n; value = value }) is in
-    ap (given old name value) none
-    ∙ ap Some (sym (ap (params_of items) whole ∙ map-append (λ e. record { name = items e.0; value = e.1 }) es ((key, value) ∷ []) ∙ ap (λ ps. ps ++ record { name = items key; value = value } ∷ []) view ∙ ap (λ p. old ++ p ∷ []) last))
+    by : (b : Bool) → value_of_name (params_of names values) name ≡ option_and_then (slice_get values) (number_of names name)
+        → cond b (Some value) (value_of_name (params_of names values) name) ≡ option_and_then (slice_get (value ∷ values)) (cond (nat_lt (cond (not b) (1 + place) 0) (suc (length names))) (Some (cond (not b) (1 + place) 0)) None)
+    by true rest = ap (λ b. option_and_then (slice_get (value ∷ values)) (cond b (Some 0) None)) (sym (lt-ltb 0 (suc (length names)) (omega arith)))
+    by false rest = rest ∙ sym (later place (length names) value values)
+
+-- a name without a value has no number
+pub no_number : (names : List (List ℕ)) (values : List Quantity) (name : List ℕ) → length names ≡ length values → value_of_name (params_of names values) name ≡ None → number_of names name ≡ None
+no_number names values name long none = by (number_of names name) refl
+  where
+    by : (o : Option ℕ) → number_of names name ≡ o → o ≡ None
+    by None e = refl
+    by (Some i) e = elim (slice_get_cases values i).1 [
+      | inl (value, less, some, is) ↦ absurd (true≢false (ap is_some (sym some ∙ sym (ap (option_and_then (slice_get values)) e) ∙ sym (value_at_number names values name long) ∙ none)))
+      | inr (past, missing) ↦ absurd (omega (arith, (position-Some (bytes_eq name) names i [] e).0, past, long))
+    ]
+
+pub params_of-push : (names : List (List ℕ)) (values : List Quantity) (name : List ℕ) (value : Quantity) → length names ≡ length values → params_of (names ++ name ∷ []) (values ++ value ∷ []) ≡ params_of names values ++ record { name = name; value = value } ∷ []
+params_of-push [] [] name value long = refl
+params_of-push [] (v ∷ values) name value long = absurd (omega (arith, long))
+params_of-push (n ∷ names) [] name value long = absurd (omega (arith, long))
+params_of-push (n ∷ names) (v ∷ values) name value long = ap (λ ps. record { name = n; value = v } ∷ ps) (params_of-push names values name value (omega (arith, long)))
+
+-- what a reference that was got reads
+pub got : {X : Type 0} (xs : List X) (i : ℕ) (item : Option (Bor X)) → IsItemAt xs i item → option_copied item ≡ slice_get xs i
+got xs i None is = sym (slice_get_past xs i is.3)
+got xs i (Some item) is = ap Some is.1 ∙ sym (slice_get-get_or xs i item.now is.3.0)

@@ -10,6 +10,11 @@ pub record Param : Type 0 where
   pub name : List ℕ
   pub value : Quantity
 
+-- names with their values, as far as both reach
+abbrev pub params_of : List (List ℕ) → List Quantity → List Param
+params_of (name ∷ names) (value ∷ values) = record { name = name; value = value } ∷ params_of names values
+params_of _ _ = []
+
 -- the value that a name has
 abbrev pub value_of_name : List Param → List ℕ → Option Quantity
 value_of_name [] name = None

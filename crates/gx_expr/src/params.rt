@@ -2,24 +2,26 @@ ghost use Rattle.std.specs.Prelude.{◌≡◌, []};
 ghost use Rattle.gx_expr.specs.Quantity.{is_same_quantity};
 
 use crate::{ParamFault, Value};
-use indexmap::IndexMap;
+use gx_names::NameList;
 use std::alloc::Global;
 use std::marker::Model;
 
 /// The parameters that are defined. Contracts see their names and values in the order of definition.
 #[derive(Drop)]
 pub struct Params {
-    alloc: Global,
-    values: IndexMap<Vec<u8>, Value>,
+    names: NameList,
+    values: Vec<Value>,
 }
 
 impl Model for Params {
-    ghost use Rattle.std.specs.Prelude.{List, map};
-    ghost use Rattle.gx_expr.specs.Param.{Param};
+    ghost use Rattle.std.specs.Prelude.{◌≡◌, List, length};
+    ghost use Rattle.gx_expr.specs.Param.{Param, params_of};
 
     ghost Value = { List Param };
 
-    ghost view = { λ p. map (λ e. record { name = e.0.items; value = e.1 }) p.values.entries };
+    ghost view = { λ p. params_of p.names p.values.items };
+
+    ghost invariant = { λ p. length p.names ≡ length p.values.items };
 }
 
 impl Params {
@@ -30,8 +32,8 @@ impl Params {
         ensures { result ≡ [] }
     {
         Params {
-            alloc,
-            values: IndexMap::new(alloc),
+            names: NameList::new(alloc),
+            values: Vec::new(alloc),
         }
     }
 
@@ -46,8 +48,9 @@ impl Params {
             }
             return Ok(());
         }
-        let name = Vec::from_slice(self.alloc, name)?;
-        self.values.insert(name, value)?;
+        self.values.reserve(1)?;
+        self.names.add(name)?;
+        self.values.push(value)?;
         Ok(())
     }
 
@@ -55,7 +58,7 @@ impl Params {
     pub fn get(&self, name: &[u8]) -> Option<Value>
         ensures { result ≡ value_of_name self.now name.now }
     {
-        self.values.get(name).copied()
+        self.values.get(self.names.place(name)?).copied()
     }
 }
 

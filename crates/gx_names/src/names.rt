@@ -1,26 +1,23 @@
 ghost use Rattle.std.specs.Prelude.{◌≡◌, ◌<◌, ◌-◌, ◌^◌, [], length};
 
-use crate::NameFault;
-use indexmap::IndexSet;
+use crate::{NameFault, NameList};
 use std::alloc::Global;
 use std::marker::Model;
 
 /// Names with their numbers, from 0 in the order in which they were defined. Contracts see the list of the names.
 #[derive(Drop)]
 pub struct Names {
-    alloc: Global,
-    names: IndexSet<Vec<u8>>,
+    names: NameList,
 }
 
 impl Model for Names {
-    ghost use Rattle.std.specs.Prelude.{◌<◌, ◌^◌, List, ℕ, length, map};
-    ghost use Rattle.gx_names.specs.Names.{AreDistinct};
+    ghost use Rattle.std.specs.Prelude.{◌<◌, ◌^◌, List, ℕ, length};
 
     ghost Value = { List (List ℕ) };
 
-    ghost view = { λ n. map (λ k. k.items) n.names.keys };
+    ghost view = { λ n. n.names };
 
-    ghost invariant = { λ n. (length n.names.keys < 2 ^ 32) × AreDistinct (map (λ k. k.items) n.names.keys) };
+    ghost invariant = { λ n. length n.names < 2 ^ 32 };
 }
 
 impl Names {
@@ -31,8 +28,7 @@ impl Names {
         ensures { result ≡ [] }
     {
         Names {
-            alloc,
-            names: IndexSet::new(alloc),
+            names: NameList::new(alloc),
         }
     }
 
@@ -45,8 +41,7 @@ impl Names {
             return Err(NameFault::Twice);
         }
         let number = self.count();
-        let name = Vec::from_slice(self.alloc, name)?;
-        self.names.insert(name)?;
+        self.names.add(name)?;
         Ok(number)
     }
 
@@ -55,7 +50,7 @@ impl Names {
         ensures value { result ≡ number_of self.now name.now }
         ensures distinct { AreDistinct self.now }
     {
-        self.names.get_index_of(name).map(|number| number as u32)
+        self.names.place(name).map(|number| number as u32)
     }
 
     /// How many names there are.

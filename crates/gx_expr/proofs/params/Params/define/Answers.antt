@@ -1,20 +1,18 @@
-use Rattle.std.proofs.Common.{◌≡◌, ◌∙◌, ap, sym, None}
-use Rattle.std.specs.Str.{bytes_eq}
-use Rattle.indexmap.specs.IndexMap.{get}
-use Rattle.indexmap.proofs.CallerLemmas.{insert_entry-new}
-use Rattle.gx_expr.specs.Param.{value_of_name}
-use Rattle.gx_expr.proofs.Names.{value_of_name-params_of, params_of, defined}
+use Rattle.std.proofs.Common.{◌≡◌, ◌++◌, ◌∷◌, [], None, Some, ◌∙◌, ap, sym}
+use Rattle.gx_expr.specs.Param.{value_of_name, given, params_of}
+use Rattle.gx_expr.proofs.Names.{no_number, params_of-push}
 use Rattle.gx_expr.proofs.params.Params.define.Goals as goal
+
+pub add-requires : goal.add-requires
+add-requires c =
+    no_number c.self.inside.names c.self.inside.values.items c.args.name.now c.self.invariant (ap (λ ps. value_of_name ps c.args.name.now) c.self.view_is ∙ sym c.get.ensures ∙ c.in_default.is)
 
 pub returns : goal.returns
 returns c =
-    let m = c.self.inside.values in
-    let key = c.in_ok-name.name in
     let none : value_of_name c.args.self.now c.args.name.now ≡ None = sym c.get.ensures ∙ c.in_default.is in
-    let absent : get (λ a b. bytes_eq a.items b.items) m key ≡ None =
-    sym (value_of_name-params_of (λ k. k.items) key.items m.entries)
-    ∙ ap (value_of_name (params_of (λ k. k.items) m.entries)) c.in_ok-name.ensures.items
-    ∙ ap (λ ps. value_of_name ps c.args.name.now) c.self.view_is
-    ∙ none in
-    let whole = c.in_ok-insert.ensures.entries ∙ insert_entry-new (λ a b. bytes_eq a.items b.items) m key c.args.value absent in
-    defined (λ k. k.items) m.entries _ c.args.self.now key c.args.name.now c.args.value c.self.view_is c.in_ok-name.ensures.items whole none
+    let new : params_of c.add.new.self c.push.new.self.items ≡ c.args.self.now ++ record { name = c.args.name.now; value = c.args.value } ∷ [] =
+    ap (λ names. params_of names c.push.new.self.items) c.in_ok-add.ensures.ok
+    ∙ ap (params_of (c.self.inside.names ++ c.args.name.now ∷ [])) (c.in_ok-push.ensures.items ∙ ap (λ vs. vs ++ c.args.value ∷ []) c.in_ok-reserve.ensures.items)
+    ∙ params_of-push c.self.inside.names c.self.inside.values.items c.args.name.now c.args.value c.self.invariant
+    ∙ ap (λ ps. ps ++ record { name = c.args.name.now; value = c.args.value } ∷ []) c.self.view_is in
+    ap (given c.args.self.now c.args.name.now c.args.value) none ∙ ap Some (sym new)
