@@ -1,9 +1,9 @@
 -- How an answer through a buffer ends.
-use Rattle.std.proofs.Common.{◌≡◌, ℕ, Bool, true, false, List, [], ◌∷◌, ◌++◌, Option, None, Some, Result, Ok, Err, OnOk, refl, sym, ap, ◌∙◌, subst, append-nil, take, length, arith, length-append}
+use Rattle.std.proofs.Common.{◌≡◌, ℕ, Bool, true, false, List, [], ◌++◌, Option, None, Some, Result, Ok, Err, OnOk, refl, sym, ap, ◌∙◌, subst, append-nil, take, length, arith, length-append}
 use Rattle.std.specs.Prelude.{find, if◌then◌else◌}
 use Rattle.std.specs.List.{list_any}
 use Rattle.std.proofs.lemmas.List.{take_all}
-use Rattle.gx_io.specs.Bytes.{with_after, next_fault, Grows, AppendsBut, AppendsFront}
+use Rattle.gx_io.specs.Bytes.{with_after, Grows, AppendsBut, AppendsFront}
 use Rattle.gx_io.specs.declared.error.IoError.{IoError}
 use Rattle.gx_io.specs.declared.error.IoError.TheVariants as io
 use Rattle.gx_io.proofs.Gathered.{front-gathered, with_after-none}
@@ -19,7 +19,7 @@ use Rattle.g4exact.specs.declared.command.Verb.{Verb}
 use Rattle.g4exact.specs.declared.command.Verb.TheVariants.{Trace, Check, List as Listed}
 use Rattle.g4exact.specs.declared.command.Telling.{Telling}
 use Rattle.g4exact.specs.Output.{IsTraced, IsAnswer}
-use Rattle.g4exact.specs.Ends.{WritesAll, WritesFront, Wants, Answers, HasIoCause, Ends, Blames}
+use Rattle.g4exact.specs.Ends.{WritesAll, WritesFront, Answers, Ends, Blames}
 
 -- the statuses that tell a whole output of a text
 abbrev pub Tells : Status → Type 0

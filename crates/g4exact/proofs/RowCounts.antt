@@ -1,12 +1,12 @@
 -- How the rows of rays add up.
-use Rattle.std.proofs.Common.{◌≡◌, ℕ, zero, suc, ◌+◌, ◌≤◌, List, [], ◌∷◌, ◌++◌, length, drop, Option, Some, Result, Ok, Err, OnOk, refl, sym, ap, ◌∙◌, subst, arith, length-append}
+use Rattle.std.proofs.Common.{◌≡◌, ℕ, zero, suc, ◌+◌, ◌≤◌, List, [], ◌∷◌, ◌++◌, length, drop, Some, Result, Ok, Err, OnOk, refl, sym, ap, ◌∙◌, subst, arith, length-append}
 use Rattle.std.specs.Prelude.{slice_get, sum_by}
 use Rattle.std.specs.List.{range_with_len}
 use Rattle.std.proofs.lemmas.List.Sums.{sum_by_push}
 use Rattle.std.proofs.lemmas.List.{drop_all}
 use Rattle.gx_num.specs.declared.ray.Ray.{Ray}
 use Rattle.gx_io.specs.declared.fault.Failed.{Failed}
-use Rattle.gx_io.specs.Bytes.{with_after, next_fault, HasCause, Writes}
+use Rattle.gx_io.specs.Bytes.{with_after, HasCause}
 use Rattle.gx_path.specs.Report.{Row, IsReport}
 use Rattle.gx_tree.specs.Hierarchy.{Hierarchy}
 use Rattle.gx_tree.specs.Deepest.{path_along}

@@ -1,5 +1,5 @@
 -- How a run's parts make its clauses.
-use Rattle.std.proofs.Common.{◌≡◌, ◌⊎◌, ℕ, ◌<◌, ◌≤◌, inl, inr, true, List, [], ◌++◌, length, drop, Option, None, Some, Result, Ok, Err, refl, sym, ap, ◌∙◌, subst, arith, length-append, append-nil}
+use Rattle.std.proofs.Common.{◌≡◌, ◌⊎◌, ℕ, ◌<◌, ◌≤◌, inl, inr, true, List, [], ◌++◌, length, drop, Option, None, Some, Result, Err, refl, sym, ap, ◌∙◌, subst, arith, length-append, append-nil}
 use Rattle.std.specs.Prelude.{nat_lt}
 use Rattle.std.specs.Option.{option_map}
 use Rattle.std.specs.Io.KnownBytes.{IsAtEnd}
@@ -24,7 +24,7 @@ use Rattle.g4exact.specs.declared.command.Telling.{Telling}
 use Rattle.g4exact.specs.declared.command.Telling.TheVariants.{Summary}
 use Rattle.gx_canon.specs.Canonical.{millimetre}
 use Rattle.gx_sample.specs.Text.{sample_text}
-use Rattle.g4exact.specs.Output.{IsOutput, IsAnswer, IsWritten}
+use Rattle.g4exact.specs.Output.{IsOutput, IsAnswer}
 use Rattle.g4exact.specs.Ends.{WritesAll, Ends, IsTold, Blames, HasFailed, RunsTo, IsReadOut, IsReadWhole, most_read}
 
 -- some text is told

@@ -1,17 +1,13 @@
 -- What a sample writes, by the law of its text.
-use Rattle.std.proofs.Common.{◌≡◌, ℕ, ◌≤◌, List, Option, None, Some, Result, Ok, subst}
-use Rattle.std.specs.Prelude.{find}
+use Rattle.std.proofs.Common.{Option, Result, subst}
 use Rattle.gx_check.specs.declared.verdict.Verdict.{Verdict}
-use Rattle.gx_check.specs.Verdicts.{verdicts, refutes}
 use Rattle.gx_gather.specs.declared.fault.TextFault.{TextFault}
 use Rattle.gx_link.specs.declared.input.Input.{Input}
 use Rattle.gx_sample_clean.specs.Sample.{sample_tree, sample_rays}
 use Rattle.gx_sample_clean.specs.Laws.{CleanSample}
 use Rattle.g4exact.specs.declared.command.Verb.TheVariants.{Trace}
 use Rattle.g4exact.specs.declared.command.Telling.TheVariants.{Summary}
-use Rattle.g4exact.specs.declared.outcome.Status.{Status}
-use Rattle.g4exact.specs.declared.outcome.Status.TheVariants.{Clean}
-use Rattle.g4exact.specs.Output.{IsSummary, IsTraced, IsAnswer}
+use Rattle.g4exact.specs.Output.{IsTraced, IsAnswer}
 use Rattle.g4exact.specs.Laws.{SamplesAreSummaries}
 
 pub samples_are_summaries : CleanSample → SamplesAreSummaries

@@ -18,7 +18,7 @@ const TRACE: [&str; 2] = ["trace", "--grid=1*mm"];
 const WORLD: &str = ":VOLU world BOX 10 10 10 Air\n";
 
 // What a run is given, and what it must write.
-#[derive(Drop)]
+#[derive(Clone, Copy)]
 struct Case<'a> {
     words: &'a [&'a str],
     text: &'a [u8],
@@ -34,14 +34,25 @@ fn strings(alloc: Global, words: &[&str]) -> Result<Vec<String>, Fail> {
     Ok(all)
 }
 
-fn run_on(
+// What a run answers, and whether it writes that. It owns the devices, so it has one way out.
+fn outcome(
     alloc: Global,
-    words: &[&str],
-    source: &mut MemSource,
-    sink: &mut MemSink,
-) -> Result<Status, Fail> {
-    let words = strings(alloc, words)?;
-    Ok(counted::<_, _, Brand, Brand>(alloc, &words, source, sink, Blank::new(1), Blank::new(1)))
+    words: &[String],
+    source: MemSource,
+    sink: MemSink,
+    output: &[u8],
+) -> (Status, bool) {
+    let mut source = source;
+    let mut sink = sink;
+    let status = counted::<_, _, Brand, Brand>(
+        alloc,
+        words,
+        &mut source,
+        &mut sink,
+        Blank::new(1),
+        Blank::new(1),
+    );
+    (status, sink.written() == output)
 }
 
 fn joined(alloc: Global, first: &str, second: &str) -> Result<Vec<u8>, Fail> {
@@ -50,26 +61,46 @@ fn joined(alloc: Global, first: &str, second: &str) -> Result<Vec<u8>, Fail> {
     Ok(all)
 }
 
+fn ran(alloc: Global, case: &Case<'_>, most: usize) -> Result<(Status, bool), Fail> {
+    let most = most.max(1);
+    let words = strings(alloc, case.words)?;
+    let bytes = Vec::from_slice(alloc, case.text)?;
+    let sink = MemSink::new(alloc, 4096, most, Vec::new(alloc))?;
+    let source = MemSource::new(bytes, most, Vec::new(alloc));
+    Ok(outcome(alloc, &words, source, sink, case.output.as_bytes()))
+}
+
 // However the bytes come and go, the output is the same.
 fn check(rt: &impl Abort, alloc: Global, case: &Case<'_>) -> Result<(), Fail> {
     for most in [1usize, 7, 1 << 20] {
-        let most = most.max(1);
-        let bytes = Vec::from_slice(alloc, case.text)?;
-        let mut source = MemSource::new(bytes, most, Vec::new(alloc));
-        let mut sink = MemSink::new(alloc, 4096, most, Vec::new(alloc))?;
-        let status = run_on(alloc, case.words, &mut source, &mut sink)?;
+        let (status, same) = ran(alloc, case, most)?;
         assert!(rt;
             status == case.status,
             "status {status:?}, wanted {:?}",
             case.output
         );
-        assert!(rt;
-            sink.written() == case.output.as_bytes(),
-            "wanted {:?}",
-            case.output
-        );
+        assert!(rt; same, "wanted {:?}", case.output);
     }
     Ok(())
+}
+
+// The same of a text that begins with these volumes.
+fn check_pair(
+    rt: &impl Abort,
+    alloc: Global,
+    words: &[&str],
+    rest: &str,
+    answer: (Status, &str),
+) -> Result<(), Fail> {
+    let text = joined(alloc, PAIR, rest)?;
+    let (status, output) = answer;
+    let case = Case {
+        words,
+        text: &text,
+        status,
+        output,
+    };
+    check(rt, alloc, &case)
 }
 
 #[test]
@@ -149,17 +180,7 @@ fn lines_and_texts_have_their_limits(rt: HostRuntime) -> Result<(), Fail> {
         (65536usize, Status::Clean, "ray 1\n10 30 world\n"),
         (65537, Status::TextFault, "fault 1 0 LongLine\n"),
     ] {
-        let mut text = vec![in alloc; b'/'; length]?;
-        text.push(b'\n')?;
-        text.extend_from_slice(WORLD.as_bytes())?;
-        text.extend_from_slice(b":RAY -20 0 0 1 0 0")?;
-        let case = Case {
-            words: &TRACE,
-            text: &text,
-            status,
-            output,
-        };
-        check(&rt, alloc, &case)?;
+        check_comment(&rt, alloc, length, status, output)?;
     }
     for (text, status, output) in [
         (
@@ -178,13 +199,40 @@ fn lines_and_texts_have_their_limits(rt: HostRuntime) -> Result<(), Fail> {
         check(&rt, alloc, &case)?;
     }
     // a text's length is judged before its lines
-    let long = vec![in alloc; b'/'; 67108865]?;
-    let mut source = MemSource::new(long, 1 << 20, Vec::new(alloc));
-    let mut sink = MemSink::new(alloc, 100, 100, Vec::new(alloc))?;
-    let status = run_on(alloc, &TRACE, &mut source, &mut sink)?;
-    assert!(rt; status == Status::TextFault, "{status:?}");
-    assert!(rt; sink.written() == b"fault 0 0 LongText\n".as_slice());
+    assert_eq!(rt;
+        long_text(alloc, b"fault 0 0 LongText\n")?,
+        (Status::TextFault, true)
+    );
     Ok(())
+}
+
+// A line of a comment, so long, before a world and a ray.
+fn check_comment(
+    rt: &impl Abort,
+    alloc: Global,
+    length: usize,
+    status: Status,
+    output: &str,
+) -> Result<(), Fail> {
+    let mut text = vec![in alloc; b'/'; length]?;
+    text.push(b'\n')?;
+    text.extend_from_slice(WORLD.as_bytes())?;
+    text.extend_from_slice(b":RAY -20 0 0 1 0 0")?;
+    let case = Case {
+        words: &TRACE,
+        text: &text,
+        status,
+        output,
+    };
+    check(rt, alloc, &case)
+}
+
+fn long_text(alloc: Global, output: &[u8]) -> Result<(Status, bool), Fail> {
+    let words = strings(alloc, &TRACE)?;
+    let long = vec![in alloc; b'/'; 67108865]?;
+    let sink = MemSink::new(alloc, 100, 100, Vec::new(alloc))?;
+    let source = MemSource::new(long, 1 << 20, Vec::new(alloc));
+    Ok(outcome(alloc, &words, source, sink, output))
 }
 
 // Solids with other faces than a box's. The half-width of the first at z is 6 + z/20; the points of the others have
@@ -241,33 +289,33 @@ const PAIR: &str = ":ROTM r0 0 0 0\n:VOLU world BOX 20 20 20 Air\n:VOLU b BOX 5 
 #[test]
 fn each_ray_has_its_rows(rt: HostRuntime) -> Result<(), Fail> {
     let alloc = rt.alloc();
-    let touching = joined(
-        alloc,
-        PAIR,
-        ":PLACE b 1 world r0 -5 0 0\n:PLACE b 2 world r0 5 0 0\n:RAY -30 0 0 1 0 0\n:RAY 0 -30 0 0 1 0",
-    )?;
-    let corner = joined(
-        alloc,
-        PAIR,
-        ":PLACE b 1 world r0 0 0 0\n:RAY -5 15 -5 1 -1 1",
-    )?;
-    let deep = joined(
-        alloc,
-        PAIR,
-        ":PLACE b 1 world r0 0 0 0\n:PLACE b 2 world r0 9 0 0\n:RAY -30 0 0 1 0 0",
-    )?;
+    for (rest, answer) in [
+        (
+            ":PLACE b 1 world r0 -5 0 0\n:PLACE b 2 world r0 5 0 0\n:RAY -30 0 0 1 0 0\n:RAY 0 -30 0 0 1 0",
+            (
+                Status::Clean,
+                "ray 1\n10 20 world\n20 30 world b@0:1\n30 40 world b@1:2\n40 50 world\nray 2\n10 50 world\n",
+            ),
+        ),
+        (
+            ":PLACE b 1 world r0 0 0 0\n:RAY -5 15 -5 1 -1 1",
+            (Status::Clean, "ray 1\n0 25 world\n"),
+        ),
+        (
+            ":PLACE b 1 world r0 0 0 0\n:PLACE b 2 world r0 9 0 0\n:RAY -30 0 0 1 0 0",
+            (
+                Status::Refuted,
+                "overlap world b@0:1 b@1:2 5:-5:5:1 5:5:-5:1 5:-5:-5:1 4:-5:-5:1\n",
+            ),
+        ),
+    ] {
+        check_pair(&rt, alloc, &TRACE, rest, answer)?;
+    }
     let module =
         b"// barrel module\n:P thick 2.*cm\n:MATE Lead 82 207.19 11.35\n:ROTM R00 0. 0. 0.\n:ROTM R90 0. 0. 90.*deg\n:VOLU hall BOX 2.*m 2.*m 3.*m Air\n:VOLU module BOX 50.*cm 40.*cm 1.*m Iron\n:VOLU slab BOX $thick/2 40.*cm 1.*m Lead\n:COLOUR slab 1. 0. 0.\n:PLACE module 1 hall R90 0. 0. 50.*cm\n:PLACE_PARAM slab 1 module LINEAR_X R00 5 20.*cm -40.*cm\n:RAY 0 -300.*cm 50.*cm 0 1.*cm 0".as_slice();
     let all = [
         (
             TRACE.as_slice(),
-            touching.as_slice(),
-            Status::Clean,
-            "ray 1\n10 20 world\n20 30 world b@0:1\n30 40 world b@1:2\n40 50 world\nray 2\n10 50 world\n",
-        ),
-        (&TRACE, &corner, Status::Clean, "ray 1\n0 25 world\n"),
-        (
-            &TRACE,
             b":VOLU world BOX 10 10 10 Air\n:VOLU cell BOX 2 10 10 Lead\n:REPL cell world X 5 4\n:RAY -20 0 0 1 0 0".as_slice(),
             Status::Clean,
             "ray 1\n10 14 world cell@0:0\n14 18 world cell@1:1\n18 22 world cell@2:2\n22 26 world cell@3:3\n26 30 world cell@4:4\n",
@@ -277,12 +325,6 @@ fn each_ray_has_its_rows(rt: HostRuntime) -> Result<(), Fail> {
             module,
             Status::Clean,
             "ray 1\n100 250 hall\n250 259 hall module@0:1\n259 261 hall module@0:1 slab@4:4\n261 279 hall module@0:1\n279 281 hall module@0:1 slab@3:3\n281 299 hall module@0:1\n299 301 hall module@0:1 slab@2:2\n301 319 hall module@0:1\n319 321 hall module@0:1 slab@1:1\n321 339 hall module@0:1\n339 341 hall module@0:1 slab@0:0\n341 350 hall module@0:1\n350 500 hall\n",
-        ),
-        (
-            &TRACE,
-            &deep,
-            Status::Refuted,
-            "overlap world b@0:1 b@1:2 5:-5:5:1 5:5:-5:1 5:-5:-5:1 4:-5:-5:1\n",
         ),
     ];
     for (words, text, status, output) in all {
@@ -304,35 +346,33 @@ fn each_daughter_and_each_pair_has_its_verdict(rt: HostRuntime) -> Result<(), Fa
     let alloc = rt.alloc();
     let check_all = ["check", "--grid=1*mm"].as_slice();
     let brief = ["check", "--grid=1*mm", "--brief"].as_slice();
-    let touching = joined(
-        alloc,
-        PAIR,
-        ":PLACE b 1 world r0 -5 0 0\n:PLACE b 2 world r0 5 0 0\n:RAY -30 0 0 1 0 0",
-    )?;
-    let deep = joined(
-        alloc,
-        PAIR,
-        ":PLACE b 1 world r0 0 0 0\n:PLACE b 2 world r0 9 0 0",
-    )?;
-    let all = [
+    let touching = ":PLACE b 1 world r0 -5 0 0\n:PLACE b 2 world r0 5 0 0\n:RAY -30 0 0 1 0 0";
+    for (words, rest, answer) in [
         (
             check_all,
-            touching.as_slice(),
-            Status::Clean,
-            "in world b@0:1\nin world b@1:2\napart world b@0:1 b@1:2 1 0 0 0\nchecked 2 daughters 1 pairs 0 refuted\n",
+            touching,
+            (
+                Status::Clean,
+                "in world b@0:1\nin world b@1:2\napart world b@0:1 b@1:2 1 0 0 0\nchecked 2 daughters 1 pairs 0 refuted\n",
+            ),
         ),
         (
             brief,
-            touching.as_slice(),
-            Status::Clean,
-            "checked 2 daughters 1 pairs 0 refuted\n",
+            touching,
+            (Status::Clean, "checked 2 daughters 1 pairs 0 refuted\n"),
         ),
         (
             brief,
-            deep.as_slice(),
-            Status::Refuted,
-            "overlap world b@0:1 b@1:2 5:-5:5:1 5:5:-5:1 5:-5:-5:1 4:-5:-5:1\nchecked 2 daughters 1 pairs 1 refuted\n",
+            ":PLACE b 1 world r0 0 0 0\n:PLACE b 2 world r0 9 0 0",
+            (
+                Status::Refuted,
+                "overlap world b@0:1 b@1:2 5:-5:5:1 5:5:-5:1 5:-5:-5:1 4:-5:-5:1\nchecked 2 daughters 1 pairs 1 refuted\n",
+            ),
         ),
+    ] {
+        check_pair(&rt, alloc, words, rest, answer)?;
+    }
+    let all = [
         (
             check_all,
             b":ROTM r0 0 0 0\n:VOLU world BOX 20 20 20 Air\n:VOLU a TET -10 0 -10 10 0 10 0 -3 -13 0 3 -7 Lead\n:VOLU b TET 0 -10 -9 0 10 11 -3 0 8 3 0 14 Lead\n:PLACE a 1 world r0 0 0 0\n:PLACE b 1 world r0 0 0 0".as_slice(),
@@ -374,7 +414,6 @@ fn each_daughter_and_each_pair_has_its_verdict(rt: HostRuntime) -> Result<(), Fa
 #[test]
 fn a_geometry_is_listed(rt: HostRuntime) -> Result<(), Fail> {
     let alloc = rt.alloc();
-    let chain = deep_chain(alloc, 32)?;
     let all = [
         (
             ["list", "--grid=1*mm"].as_slice(),
@@ -400,12 +439,6 @@ fn a_geometry_is_listed(rt: HostRuntime) -> Result<(), Fail> {
             Status::TextFault,
             "fault 2 5 NotAxis\n",
         ),
-        (
-            &["check", "--brief"],
-            &chain,
-            Status::Clean,
-            "checked 32 daughters 0 pairs 0 refuted\n",
-        ),
     ];
     for (words, text, status, output) in all {
         let case = Case {
@@ -416,14 +449,35 @@ fn a_geometry_is_listed(rt: HostRuntime) -> Result<(), Fail> {
         };
         check(&rt, alloc, &case)?;
     }
-    let deeper = deep_chain(alloc, 33)?;
+    for (depth, words, answer) in [
+        (
+            32,
+            ["check", "--brief"].as_slice(),
+            (Status::Clean, "checked 32 daughters 0 pairs 0 refuted\n"),
+        ),
+        (33, &["list"], (Status::TextFault, "fault 34 2 TooDeep\n")),
+    ] {
+        check_chain(&rt, alloc, depth, words, answer)?;
+    }
+    Ok(())
+}
+
+fn check_chain(
+    rt: &impl Abort,
+    alloc: Global,
+    depth: u32,
+    words: &[&str],
+    answer: (Status, &str),
+) -> Result<(), Fail> {
+    let text = deep_chain(alloc, depth)?;
+    let (status, output) = answer;
     let case = Case {
-        words: &["list"],
-        text: &deeper,
-        status: Status::TextFault,
-        output: "fault 34 2 TooDeep\n",
+        words,
+        text: &text,
+        status,
+        output,
     };
-    check(&rt, alloc, &case)
+    check(rt, alloc, &case)
 }
 
 // Boxes in one another, each as large as her mother, so many below the first.
@@ -539,21 +593,33 @@ fn a_sample_is_counted(rt: HostRuntime) -> Result<(), Fail> {
     Ok(())
 }
 
+// The second read fails, or the second write.
 #[test]
 fn a_device_that_fails_leaves_a_front(rt: HostRuntime) -> Result<(), Fail> {
     let alloc = rt.alloc();
-    let text = joined(alloc, WORLD, ":RAY -20 0 0 1 0 0\n")?;
-    let mut source = MemSource::new(Vec::from_slice(alloc, &text)?, 10, vec![in alloc; 2]?);
-    let mut sink = MemSink::new(alloc, 100, 100, Vec::new(alloc))?;
-    let status = run_on(alloc, &TRACE, &mut source, &mut sink)?;
-    assert!(rt; status == Status::ReadFault, "{status:?}");
-    assert!(rt; sink.written().is_empty());
-    let mut source = MemSource::new(text, 10, Vec::new(alloc));
-    let mut sink = MemSink::new(alloc, 100, 4, vec![in alloc; 2]?)?;
-    let status = run_on(alloc, &TRACE, &mut source, &mut sink)?;
-    assert!(rt; status == Status::WriteFault, "{status:?}");
-    assert!(rt; sink.written() == b"ray ".as_slice());
+    let all: [(&[u32], &[u32], &[u8], Status); 2] = [
+        (&[2], &[], b"", Status::ReadFault),
+        (&[], &[2], b"ray ", Status::WriteFault),
+    ];
+    for (reads, writes, output, status) in all {
+        assert_eq!(rt; failing(alloc, reads, writes, output)?, (status, true));
+    }
     Ok(())
+}
+
+fn failing(
+    alloc: Global,
+    reads: &[u32],
+    writes: &[u32],
+    output: &[u8],
+) -> Result<(Status, bool), Fail> {
+    let words = strings(alloc, &TRACE)?;
+    let text = joined(alloc, WORLD, ":RAY -20 0 0 1 0 0\n")?;
+    let reads = Vec::from_slice(alloc, reads)?;
+    let writes = Vec::from_slice(alloc, writes)?;
+    let sink = MemSink::new(alloc, 100, 4, writes)?;
+    let source = MemSource::new(text, 10, reads);
+    Ok(outcome(alloc, &words, source, sink, output))
 }
 
 #[test]

@@ -15,7 +15,7 @@ use Rattle.gx_path.specs.Report.{Row, IsReport, AnyByRecursion}
 use Rattle.gx_path.proofs.Unique.{unique}
 use Rattle.gx_partition.specs.Partition.{Piece, is_below, open_rows}
 use Rattle.gx_partition.specs.Walk.{Hit, has_room, gap, under, walk, pieces_of, insert_hit, insert_found, sorted}
-use Rattle.gx_nest.specs.Met.{Frame, IsFound, met_in, pieces_along}
+use Rattle.gx_nest.specs.Met.{Frame, met_in, pieces_along}
 use Rattle.gx_nest.proofs.Steady.{open_report}
 use Rattle.gx_walk.specs.Hits.{cost_of}
 use Rattle.gx_navigator.specs.Tests.{tests_along, IsTestCount, AreDifferent, ArePathsOf}

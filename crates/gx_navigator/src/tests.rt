@@ -120,13 +120,15 @@ fn text(alloc: Global, rows: &MemRows) -> Result<String, Fail> {
     Ok(text)
 }
 
-// By hand: two cubes side by side, and one in one in the world.
+// By hand: a cube alone, two cubes side by side, and one in one in the world.
 #[test]
 fn a_ray_has_its_report(rt: HostRuntime) -> Result<(), Fail> {
     let alloc = rt.alloc();
+    let alone: &[Cube<'_>] = &[(10, &[])];
     let two: &[Cube<'_>] = &[(20, &[(1, -5), (1, 5)]), (5, &[])];
     let nested: &[Cube<'_>] = &[(20, &[(1, 2)]), (10, &[(2, 3)]), (2, &[])];
-    let cases: [(&[Cube<'_>], [i8; 3], [i8; 3], &str); 5] = [
+    let cases: [(&[Cube<'_>], [i8; 3], [i8; 3], &str); 6] = [
+        (alone, [-20, 0, 0], [1, 0, 0], "10 30 [ ]; "),
         (
             two,
             [-30, 0, 0],

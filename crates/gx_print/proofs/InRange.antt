@@ -1,6 +1,6 @@
 -- The mother and the daughters of each verdict are in the hierarchy.
 use Rattle.std.proofs.Common.{ℕ, ◌<◌, Bool, true, false, Option, None, Some, List, IsTrue, All, length, arith}
-use Rattle.std.specs.Prelude.{◌&&◌, nat_lt}
+use Rattle.std.specs.Prelude.{◌&&◌}
 use Rattle.std.proofs.lemmas.Bool.Decides.{nat_tests}
 use Rattle.gx_num.specs.declared.vector.V3.{V3}
 use Rattle.gx_num.specs.Space.{HalfSpace}

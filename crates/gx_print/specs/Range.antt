@@ -1,5 +1,5 @@
 -- The verdicts and the rows that have a line in a hierarchy.
-use Rattle.std.specs.Prelude.{◌≡◌, ℕ, Bool, true, List, [], ◌∷◌, IsTrue, All, ◌&&◌, nat_lt, length}
+use Rattle.std.specs.Prelude.{ℕ, Bool, true, List, [], ◌∷◌, IsTrue, All, ◌&&◌, nat_lt, length}
 use Rattle.gx_tree.specs.Hierarchy.{Hierarchy, instances}
 use Rattle.gx_check.specs.declared.verdict.Verdict.{Verdict}
 use Rattle.gx_check.specs.declared.verdict.Verdict.TheVariants.{Inner, Outer, Apart, Overlap}

@@ -1,4 +1,4 @@
-use Rattle.std.proofs.Common.{◌≡◌, true, sym, refl, ap, ◌∙◌, arith}
+use Rattle.std.proofs.Common.{sym, refl, ap, ◌∙◌, arith}
 use Rattle.std.specs.Str.{bytes_eq}
 use Rattle.g4exact.proofs.Numbers.{found_number, other_number, no_number}
 use Rattle.g4exact.proofs.command.number_from.Goals as goal

@@ -1,5 +1,4 @@
-use Rattle.std.proofs.Common.{Some, refl, sym, subst, ◌∙◌}
-use Rattle.g4exact.specs.declared.command.Command.TheVariants.{Reading}
+use Rattle.std.proofs.Common.{refl, sym, subst, ◌∙◌}
 use Rattle.gx_reader.specs.Reading.{reading}
 use Rattle.g4exact.specs.Tests.{AnswersTested}
 use Rattle.g4exact.proofs.Checks.{nothing_written}

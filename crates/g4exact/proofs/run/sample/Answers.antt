@@ -2,10 +2,8 @@ use Rattle.std.proofs.Common.{refl, sym, subst}
 use Rattle.gx_reader.specs.Reading.{reading}
 use Rattle.gx_canon.specs.Canonical.{millimetre}
 use Rattle.gx_sample.specs.Text.{sample_text}
-use Rattle.g4exact.specs.declared.command.Command.TheVariants.{Sample}
 use Rattle.g4exact.specs.declared.command.Telling.TheVariants.{Summary}
 use Rattle.g4exact.specs.declared.command.Verb.TheVariants.{Trace}
-use Rattle.g4exact.specs.Output.{IsAnswer}
 use Rattle.g4exact.specs.Tests.{AnswersTested}
 use Rattle.g4exact.proofs.Runs.{sample_output}
 use Rattle.g4exact.proofs.Tested.{memory_answers}

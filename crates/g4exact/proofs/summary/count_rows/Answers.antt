@@ -1,4 +1,4 @@
-use Rattle.std.proofs.Common.{arith, ap, ◌≤◌, ◌≡◌, ◌∙◌, refl, sym, subst, length}
+use Rattle.std.proofs.Common.{arith, ap, ◌≤◌, ◌∙◌, refl, sym, subst, length}
 use Rattle.std.specs.Prelude.{EachIndex, ◌-◌, ◌^◌, min}
 use Rattle.gx_tree.specs.Hierarchy.{instances}
 use Rattle.g4exact.proofs.RowCounts.{Counted, counted_none, counted_more, counted_whole, never_fails}

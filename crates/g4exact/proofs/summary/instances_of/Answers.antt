@@ -1,4 +1,4 @@
-use Rattle.std.proofs.Common.{arith, ◌≡◌, ◌+◌, ◌∙◌, sym, length, ap}
+use Rattle.std.proofs.Common.{arith, ◌+◌, ◌∙◌, sym, length, ap}
 use Rattle.std.specs.Prelude.{sum_by}
 use Rattle.std.specs.List.{range_with_len}
 use Rattle.gx_tree.specs.Hierarchy.{instances}

@@ -1,12 +1,10 @@
 use Rattle.std.proofs.Common.{arith, ap, sym, subst, ◌≤◌, ◌≡◌, ◌∙◌, refl, length, IsTrue}
 use Rattle.std.specs.Prelude.{EachIndex}
-use Rattle.std.specs.List.{flat_map}
 use Rattle.std.proofs.lemmas.Result.{err_from_is_err_and}
 use Rattle.std.proofs.lemmas.List.Elements.{recursion_from_All}
 use Rattle.gx_io.specs.Bytes.{with_after, AppendsFront}
 use Rattle.gx_tree.specs.Hierarchy.{instances}
 use Rattle.gx_gather.specs.Rays.{IsTraceable}
-use Rattle.gx_print.specs.Texts.{row_text}
 use Rattle.g4exact.proofs.Traces.{texts_in, places_in, lines_of_report, traced_none, head_stopped, rows_stopped, traced_more, traced_whole}
 use Rattle.g4exact.proofs.Tested.{tested_none, tested_more, tested_before, tested_within, tested_whole}
 use Rattle.g4exact.proofs.Paths.{leads_is_path}

@@ -1,4 +1,4 @@
-use Rattle.g4exact.proofs.tests.run_on.Given as goal
+use Rattle.g4exact.proofs.tests.outcome.Given as goal
 
 abbrev pub ghosts-counted-T-Ledger : goal.ghosts-counted-T-Ledger
 ghosts-counted-T-Ledger a = record { name = a.tests.name; parts = a.tests.parts }
