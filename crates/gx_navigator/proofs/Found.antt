@@ -1,5 +1,6 @@
 -- What the walk is told is what the ray meets.
 use Rattle.std.proofs.Common.{◌≡◌, ℕ, ◌<◌, inl, inr, refl, sym, ap, ◌∙◌, subst, arith, List, [], map, length, slice_get, Option, None, Some}
+use Rattle.std.specs.List.{AllByRecursion}
 use Rattle.std.specs.Option.{option_map, ForSome}
 use Rattle.std.proofs.lemmas.Option.{slice_get_cases}
 use Rattle.gx_num.specs.declared.ray.Ray.{Ray}
@@ -17,19 +18,20 @@ use Rattle.gx_path.specs.Path.{max_length}
 use Rattle.gx_path.specs.Report.{IsReport}
 use Rattle.gx_partition.specs.Partition.{open_rows}
 use Rattle.gx_partition.specs.Walk.{Hit, pieces_of}
+use Rattle.gx_partition.proofs.Sorted.{all-sorted}
 use Rattle.gx_nest.specs.Met.{Frame as Place, hit_of as hit_at, IsFound, met_in as all_met}
 use Rattle.gx_nest.proofs.Nested.{solid_at, bounded_at, instance_at, moves_at}
 use Rattle.gx_nest.proofs.OneHit.{met_is_found}
 use Rattle.gx_nest.proofs.Steady.{open_report}
 use Rattle.gx_walk.specs.declared.met.Frame.{Frame}
-use Rattle.gx_walk.specs.Hits.{hit_of, hits_of, cost_of}
-use Rattle.gx_navigator.specs.Tests.{IsTestCount}
-use Rattle.gx_navigator.specs.Tracer.{clip_of, met_at, met_in, met_of}
+use Rattle.gx_walk.specs.declared.met.Met.{Met}
+use Rattle.gx_walk.specs.Hits.{CountOf, hit_of, hits_of, cost_of}
+use Rattle.gx_navigator.specs.Clipped.{clip_of, clip_of-clip}
+use Rattle.gx_navigator.specs.Paths.{daughter_of}
+use Rattle.gx_navigator.specs.Tests.{IsCost}
+use Rattle.gx_navigator.specs.Tracer.{met_at, met_in, met_of, meets, place}
 use Rattle.gx_navigator.proofs.Relabel.{relabel, sorted-relabel, pieces-relabel, cost-relabel}
-use Rattle.gx_navigator.proofs.Spans.{clip_of-clip, same_hit}
-
-abbrev place : Frame → Place
-place f = record { volume = f.volume; ray = f.ray }
+use Rattle.gx_navigator.proofs.Spans.{same_hit}
 
 hit_at-met : (k : ℕ) (i : Instance) (ray : Ray) (span : Option Span) → option_map (relabel place) (option_map hit_of (option_map (met_at k ray i) span)) ≡ hit_at k i ray span
 hit_at-met k i ray None = refl
@@ -51,6 +53,17 @@ module _ (h : Hierarchy) where
 
   hits-found : (f : Frame) → all_met h found (place f) ≡ map (relabel place) (hits f)
   hits-found f = sorted-relabel place (λ k. option_map hit_of (met_of h f k)) (length (instances h f.volume))
+
+  -- each daughter that is met is linked to her mother
+  pub linked : (f : Frame) → AllByRecursion (λ (hit : Hit Frame). daughter_of h f.volume hit.ordinal ≡ Some hit.daughter.volume) (hits f)
+  linked f = all-sorted (λ k. option_map hit_of (met_of h f k)) (λ hit. daughter_of h f.volume hit.ordinal ≡ Some hit.daughter.volume) (length (instances h f.volume)) (λ k hit below e. by k hit (met_of h f k) refl e)
+    where
+      by : (k : ℕ) (hit : Hit Frame) (o : Option Met) → met_of h f k ≡ o → option_map hit_of o ≡ Some hit → daughter_of h f.volume hit.ordinal ≡ Some hit.daughter.volume
+      by k hit None is e = absurd (cc)
+      by k hit (Some met) is e =
+          let m = meets h f k met is in
+          let same : hit_of met ≡ hit = cc in
+          subst (λ (x : Hit Frame). daughter_of h f.volume x.ordinal ≡ Some x.daughter.volume) same (ap (daughter_of h f.volume) m.0 ∙ m.1)
 
   module _ (tree : IsTree h) where
     is_found : IsFound h found
@@ -84,12 +97,12 @@ module _ (h : Hierarchy) where
           ∙ sym (met_of-span mother moves k at.0 at.1 (Some span) (met at.0 at.1))
 
     module _ (clean : IsClean h) (ray : Ray) (moves : HasDirection ray) where
-      -- nowhere in the world there is nothing to report, and nothing to test
+      -- nowhere in the world there is nothing to report, and nothing to count
       pub no_report : IsClip (solid_at h h.world) ray None → IsReport (path_along h ray) []
       no_report clip = open_report h tree clean found is_found ray moves None clip
 
-      pub no_tests : IsClip (solid_at h h.world) ray None → IsTestCount h ray 0
-      no_tests clip = record { found = found; is_found = is_found; span = None; is_span = clip; count = refl }
+      pub no_cost : (count : CountOf Place) → IsClip (solid_at h h.world) ray None → IsCost h count ray 0
+      no_cost count clip = record { found = found; is_found = is_found; span = None; is_span = clip; sum = refl }
 
       module _ (v : ℕ) (is : v ≡ h.world) (span : Span) (clip : IsClip (solid_at h h.world) ray (Some span)) where
         abbrev world : Frame
@@ -105,14 +118,17 @@ module _ (h : Hierarchy) where
             ∙ pieces-relabel place hits (all_met h found) hits-found max_length from to world in
             subst (λ l. IsReport (path_along h ray) (open_rows l)) same (open_report h tree clean found is_found ray moves (Some span) clip)
 
-        pub tests : IsTestCount h ray (cost_of (λ f. length (instances h f.volume)) hits max_length world)
-        tests = record {
-          found = found;
-          is_found = is_found;
-          span = Some span;
-          is_span = clip;
-          count =
-              sym (cost-relabel place hits (all_met h found) hits-found (λ p. length (instances h p.volume)) max_length world)
-              ∙ ap (λ n. cost_of (λ p. length (instances h p.volume)) (all_met h found) n (place world)) levels
-              ∙ ap (λ (w : ℕ). cost_of (λ p. length (instances h p.volume)) (all_met h found) max_depth (record { volume = w; ray = ray })) is;
-        }
+        pub cost : (count : CountOf Place) → IsCost h count ray (cost_of (λ f. count (place f)) hits max_length (parameter_of span.from) (parameter_of span.to) world)
+        cost count =
+            let from = parameter_of span.from in
+            let to = parameter_of span.to in
+            record {
+              found = found;
+              is_found = is_found;
+              span = Some span;
+              is_span = clip;
+              sum =
+                  sym (cost-relabel place hits (all_met h found) hits-found count max_length from to world)
+                  ∙ ap (λ n. cost_of count (all_met h found) n from to (place world)) levels
+                  ∙ ap (λ (w : ℕ). cost_of count (all_met h found) max_depth from to (record { volume = w; ray = ray })) is;
+            }

@@ -1,24 +1,30 @@
--- Each path of a report leads to a daughter that was tested.
+-- Each path of a report leads to a daughter that was tested, and each header on it was read.
 use Rattle.std.proofs.Common.{◌≡◌, ◌⊎◌, ℕ, zero, suc, ◌+◌, ◌≤◌, inl, inr, Bool, true, false, cond, refl, sym, ap, ◌∙◌, subst, arith, List, [], ◌∷◌, ◌++◌, map, length, length-append, Option, None, Some}
-use Rattle.std.specs.Prelude.{◌≢◌, sum_by}
+use Rattle.std.specs.Prelude.{◌≢◌, sum_by, is_some, if◌then◌else◌}
 use Rattle.std.specs.List.{AllByRecursion, flat_map}
 use Rattle.std.proofs.lemmas.List.Sums.{sum_by-cons}
 use Rattle.gx_num.specs.declared.ray.Ray.{Ray}
 use Rattle.gx_num.specs.Ray.{RayParameter, HasDirection}
 use Rattle.gx_fraction.specs.Fraction.{parameter_of}
 use Rattle.gx_clip.specs.declared.span.Span.{Span}
-use Rattle.gx_tree.specs.Hierarchy.{Hierarchy, instances, max_depth}
+use Rattle.gx_tree.specs.Hierarchy.{Hierarchy, volume_at}
 use Rattle.gx_tree.specs.Fault.{IsTree}
 use Rattle.gx_tree.specs.Deepest.{path_along}
 use Rattle.gx_check.specs.Clean.{IsClean}
+use Rattle.gx_clip.specs.Clip.{IsClip}
+use Rattle.gx_path.specs.Path.{max_length}
 use Rattle.gx_path.specs.Report.{Row, IsReport, AnyByRecursion}
 use Rattle.gx_path.proofs.Unique.{unique}
 use Rattle.gx_partition.specs.Partition.{Piece, is_below, open_rows}
-use Rattle.gx_partition.specs.Walk.{Hit, has_room, gap, under, walk, pieces_of, insert_hit, insert_found, sorted}
-use Rattle.gx_nest.specs.Met.{Frame, met_in, pieces_along}
-use Rattle.gx_nest.proofs.Steady.{open_report}
-use Rattle.gx_walk.specs.Hits.{cost_of}
-use Rattle.gx_navigator.specs.Tests.{tests_along, IsTestCount, AreDifferent, ArePathsOf}
+use Rattle.gx_partition.specs.Walk.{Hit, has_room, gap, under, walk, pieces_of}
+use Rattle.gx_nest.proofs.Nested.{solid_at}
+use Rattle.gx_voxel.specs.Cut.{Cut}
+use Rattle.gx_walk.specs.declared.met.Frame.{Frame}
+use Rattle.gx_walk.specs.Hits.{CountOf, Leads, cost_of, least_each, one_each}
+use Rattle.gx_navigator.specs.Paths.{daughter_of}
+use Rattle.gx_navigator.specs.Tests.{AreDifferent, HasHeader, HasPaths, IsToDaughter, IsToHeader, cut_by}
+use Rattle.gx_navigator.specs.Tracer.{least_of, place}
+use Rattle.gx_navigator.proofs.Found.{hits, linked, no_report, report}
 
 -- ---- different elements of a list are no more than it is long
 
@@ -132,23 +138,128 @@ module _ {D : Type 0} (hits : D → List (Hit D)) where
   known_pieces zero from to d = known_gap [] from false to false
   known_pieces (suc n) from to d = known_walk n (known_pieces n) to from false (hits d)
 
-  -- they are no more than the tests
-  module _ (count : D → ℕ) (few : (d : D) → length (hits d) ≤ count d) where
-    no_more_below : (n : ℕ) → ((d : D) → length (met_paths n d) ≤ cost_of count hits n d) → (hs : List (Hit D))
-        → length (flat_map (below n) hs) ≤ length hs + sum_by (λ h. cost_of count hits n h.daughter) hs
-    no_more_below n no_more [] = omega arith
-    no_more_below n no_more (h ∷ hs) =
-        let one = no_more h.daughter in
-        let rest = no_more_below n no_more hs in
-        let parts = length-append (map (λ path. h.ordinal ∷ path) (met_paths n h.daughter)) (flat_map (below n) hs) in
-        let same = length-map (λ (path : List ℕ). h.ordinal ∷ path) (met_paths n h.daughter) in
-        let sum = sum_by-cons (λ (h : Hit D). cost_of count hits n h.daughter) h hs in
-        omega (arith, one, rest, parts, same, sum)
+  -- they are as many as the daughters met
+  length-below : (n : ℕ) → ((from to : RayParameter) (d : D) → length (met_paths n d) ≡ cost_of (one_each hits) hits n from to d) → (hs : List (Hit D))
+      → length (flat_map (below n) hs) ≡ length hs + sum_by (λ h. cost_of (one_each hits) hits n h.from h.to h.daughter) hs
+  length-below n each [] = refl
+  length-below n each (h ∷ hs) =
+      let one = each h.from h.to h.daughter in
+      let rest = length-below n each hs in
+      let parts = length-append (map (λ path. h.ordinal ∷ path) (met_paths n h.daughter)) (flat_map (below n) hs) in
+      let same = length-map (λ (path : List ℕ). h.ordinal ∷ path) (met_paths n h.daughter) in
+      let sum = sum_by-cons (λ (h : Hit D). cost_of (one_each hits) hits n h.from h.to h.daughter) h hs in
+      omega (arith, one, rest, parts, same, sum)
 
-    no_more_met : (n : ℕ) (d : D) → length (met_paths n d) ≤ cost_of count hits n d
-    unfolding met_paths
-    no_more_met zero d = omega arith
-    no_more_met (suc n) d = omega (arith, few d, no_more_below n (no_more_met n) (hits d))
+  length-met : (n : ℕ) (from to : RayParameter) (d : D) → length (met_paths n d) ≡ cost_of (one_each hits) hits n from to d
+  unfolding met_paths
+  length-met zero from to d = refl
+  length-met (suc n) from to d = length-below n (length-met n) (hits d)
+
+  -- ---- the fronts of paths at which there is a header
+
+  module _ (has : D → Bool) where
+    abbrev at_header : D → List (List ℕ)
+    at_header d = if has d then [] ∷ [] else []
+
+    header_paths : ℕ → D → List (List ℕ)
+    header_paths zero d = []
+    header_paths (suc n) d = at_header d ++ flat_map (λ h. map (λ path. h.ordinal ∷ path) (header_paths n h.daughter)) (hits d)
+
+    abbrev deeper : ℕ → Hit D → List (List ℕ)
+    deeper n h = map (λ path. h.ordinal ∷ path) (header_paths n h.daughter)
+
+    abbrev least : CountOf D
+    least = least_each (λ d. if has d then 1 else 0)
+
+    length-deeper : (n : ℕ) → ((from to : RayParameter) (d : D) → length (header_paths n d) ≡ cost_of least hits n from to d) → (hs : List (Hit D))
+        → length (flat_map (deeper n) hs) ≡ sum_by (λ h. cost_of least hits n h.from h.to h.daughter) hs
+    length-deeper n each [] = refl
+    length-deeper n each (h ∷ hs) =
+        let one = each h.from h.to h.daughter in
+        let parts = length-append (deeper n h) (flat_map (deeper n) hs) in
+        let same = length-map (λ (path : List ℕ). h.ordinal ∷ path) (header_paths n h.daughter) in
+        omega (arith, one, length-deeper n each hs, parts, same, sum_by-cons (λ (h : Hit D). cost_of least hits n h.from h.to h.daughter) h hs)
+
+    length-header : (n : ℕ) (from to : RayParameter) (d : D) → length (header_paths n d) ≡ cost_of least hits n from to d
+    unfolding header_paths
+    length-header zero from to d = refl
+    length-header (suc n) from to d = length-append (at_header d) (flat_map (deeper n) (hits d)) ∙ omega (arith, length-deeper n (length-header n) (hits d), by (has d))
+      where
+        by : (b : Bool) → length (if b then [] ∷ [] else []) ≡ (if b then 1 else 0)
+        by true = refl
+        by false = refl
+
+    -- P is said of a volume and a path from it to one that has a header
+    module _ (P : D → List ℕ → Type 0) (here : (d : D) → P d [] → has d ≡ true) (there : (d : D) → AllByRecursion (λ h. (path : List ℕ) → P d (h.ordinal ∷ path) → P h.daughter path) (hits d)) where
+      -- each front of the piece's path that leads to a header is one of these
+      abbrev IsFronted : D → List (List ℕ) → Piece → Type 0
+      IsFronted d paths piece = (path : List ℕ) (k : ℕ) (further : List ℕ) → piece.path ≡ path ++ k ∷ further → P d path → IsOne path paths
+
+      fronted_gap : (d : D) (paths : List (List ℕ)) (s : RayParameter) (m : Bool) (t : RayParameter) (l : Bool) → AllByRecursion (IsFronted d paths) (gap s m t l)
+      fronted_gap d paths s m t l = by (has_room s m t l)
+        where
+          none : (path : List ℕ) (k : ℕ) (further : List ℕ) → [] ≡ path ++ k ∷ further → ⊥
+          none [] k further e = absurd (cc)
+          none (j ∷ path) k further e = absurd (cc)
+
+          by : (b : Bool) → AllByRecursion (IsFronted d paths) (cond b (record { from = s; from_in = m; to = t; to_in = l; path = [] } ∷ []) [])
+          by true = ((λ path k further e p. absurd (none path k further e)), tt)
+          by false = tt
+
+      front_header : (d : D) (rest : List (List ℕ)) → P d [] → IsOne [] (at_header d ++ rest)
+      front_header d rest p = subst (λ b. IsOne [] ((if b then [] ∷ [] else []) ++ rest)) (sym (here d p)) (inl refl)
+
+      fronted_under : (d : D) (n : ℕ) (h : Hit D) (rest : List (List ℕ)) → ((path : List ℕ) → P d (h.ordinal ∷ path) → P h.daughter path) → (pieces : List Piece)
+          → AllByRecursion (IsFronted h.daughter (header_paths n h.daughter)) pieces → AllByRecursion (IsFronted d (at_header d ++ (deeper n h ++ rest))) (map (under h.ordinal) pieces)
+      fronted_under d n h rest on [] fronted = tt
+      fronted_under d n h rest on (piece ∷ pieces) (one, fronted) = (by, fronted_under d n h rest on pieces fronted)
+        where
+          by : IsFronted d (at_header d ++ (deeper n h ++ rest)) (under h.ordinal piece)
+          by [] k further e p = front_header d (deeper n h ++ rest) p
+          by (j ∷ path) k further e p =
+              let first : h.ordinal ≡ j = cc in
+              let tail : piece.path ≡ path ++ k ∷ further = cc in
+              let q = on path (subst (λ i. P d (i ∷ path)) (sym first) p) in
+              one-append (j ∷ path) (at_header d) (deeper n h ++ rest)
+              (append-one (j ∷ path) (deeper n h) rest (subst (λ i. IsOne (i ∷ path) (deeper n h)) first (one-map (λ path. h.ordinal ∷ path) path (header_paths n h.daughter) (one path k further tail q))))
+
+      fronted_more : (d : D) (front more paths : List (List ℕ)) (pieces : List Piece) → AllByRecursion (IsFronted d (front ++ paths)) pieces → AllByRecursion (IsFronted d (front ++ (more ++ paths))) pieces
+      fronted_more d front more paths [] fronted = tt
+      fronted_more d front more paths (piece ∷ pieces) (one, fronted) = ((λ path k further e p. between path front (one path k further e p)), fronted_more d front more paths pieces fronted)
+        where
+          between : (path : List ℕ) (front : List (List ℕ)) → IsOne path (front ++ paths) → IsOne path (front ++ (more ++ paths))
+          between path [] is = one-append path more paths is
+          between path (x ∷ front) (inl e) = inl e
+          between path (x ∷ front) (inr is) = inr (between path front is)
+
+      fronted_walk : (n : ℕ) → ((from to : RayParameter) (d : D) → AllByRecursion (IsFronted d (header_paths n d)) (pieces_of hits n from to d)) → (d : D) (to s : RayParameter) (m : Bool) (hs : List (Hit D))
+          → AllByRecursion (λ h. (path : List ℕ) → P d (h.ordinal ∷ path) → P h.daughter path) hs
+          → AllByRecursion (IsFronted d (at_header d ++ flat_map (deeper n) hs)) (walk (λ h. pieces_of hits n h.from h.to h.daughter) s m to hs)
+      fronted_walk n fronted d to s m [] on = fronted_gap d (at_header d ++ []) s m to false
+      fronted_walk n fronted d to s m (h ∷ hs) on =
+          let paths = at_header d ++ (deeper n h ++ flat_map (deeper n) hs) in
+          let inner = map (under h.ordinal) (pieces_of hits n h.from h.to h.daughter) in
+          let rest = walk (λ h. pieces_of hits n h.from h.to h.daughter) h.to true to hs in
+          all-append (IsFronted d paths) (gap s m h.from true) (inner ++ rest) (fronted_gap d paths s m h.from true)
+          (all-append (IsFronted d paths) inner rest
+          (fronted_under d n h (flat_map (deeper n) hs) on.0 (pieces_of hits n h.from h.to h.daughter) (fronted h.from h.to h.daughter))
+          (fronted_more d (at_header d) (deeper n h) (flat_map (deeper n) hs) rest (fronted_walk n fronted d to h.to true hs on.1)))
+
+      fronted_pieces : (n : ℕ) (from to : RayParameter) (d : D) → AllByRecursion (IsFronted d (header_paths n d)) (pieces_of hits n from to d)
+      unfolding header_paths
+      fronted_pieces zero from to d = fronted_gap d [] from false to false
+      fronted_pieces (suc n) from to d = fronted_walk n (fronted_pieces n) d to from false (hits d) (there d)
+
+      row_fronted : (d : D) (paths : List (List ℕ)) (pieces : List Piece) (path : List ℕ) → AllByRecursion (IsFronted d paths) pieces → P d path
+          → AnyByRecursion (λ row. (k : ℕ) × (further : List ℕ) × (row.path ≡ path ++ k ∷ further)) (open_rows pieces) → IsOne path paths
+      row_fronted d paths [] path fronted p is = absurd is
+      row_fronted d paths (piece ∷ pieces) path (one, fronted) p is = by (row_fronted d paths pieces path fronted p) (is_below piece.from piece.to) is
+        where
+          by : (AnyByRecursion (λ row. (k : ℕ) × (further : List ℕ) × (row.path ≡ path ++ k ∷ further)) (open_rows pieces) → IsOne path paths)
+              → (b : Bool) → AnyByRecursion (λ row. (k : ℕ) × (further : List ℕ) × (row.path ≡ path ++ k ∷ further)) (cond b (record { from = piece.from; to = piece.to; path = piece.path } ∷ open_rows pieces) (open_rows pieces)) → IsOne path paths
+          by later true (inl (k, further, e)) = one path k further e p
+          by later true (inr is) = later is
+          by later false is = later is
 
   row_known : (paths : List (List ℕ)) (pieces : List Piece) (path : List ℕ) → AllByRecursion (IsKnown paths) pieces → path ≢ [] → AnyByRecursion (λ row. path ≡ row.path) (open_rows pieces) → IsOne path paths
   row_known paths [] path known some is = absurd is
@@ -166,50 +277,94 @@ module _ {D : Type 0} (hits : D → List (Hit D)) where
 
 -- ---- in a hierarchy
 
-length-insert_hit : {D : Type 0} (h : Hit D) (hits : List (Hit D)) → length (insert_hit h hits) ≡ suc (length hits)
-length-insert_hit h [] = refl
-length-insert_hit h (g ∷ hits) = by (length-insert_hit h hits) (is_below h.from g.from)
-  where
-    by : length (insert_hit h hits) ≡ suc (length hits) → (b : Bool) → length (cond b (h ∷ g ∷ hits) (g ∷ insert_hit h hits)) ≡ suc (suc (length hits))
-    by e true = refl
-    by e false = ap suc e
+module _ (h : Hierarchy) (tree : IsTree h) (clean : IsClean h) (ray : Ray) (moves : HasDirection ray) where
+  -- nowhere in the world there are no such paths
+  module _ (clip : IsClip (solid_at h h.world) ray None) (rows : List Row) (is : IsReport (path_along h ray) rows) where
+    none : rows ≡ []
+    none = unique (path_along h ray) rows [] is (no_report h tree clean ray moves clip)
 
-length-sorted : {D : Type 0} (found : ℕ → Option (Hit D)) (n : ℕ) → length (sorted found n) ≤ n
-length-sorted {D} found zero = omega arith
-length-sorted {D} found (suc n) = by (found n) (length-sorted found n)
-  where
-    by : (o : Option (Hit D)) → length (sorted found n) ≤ n → length (insert_found o (sorted found n)) ≤ suc n
-    by None few = omega (arith, few)
-    by (Some h) few = omega (arith, few, length-insert_hit h (sorted found n))
+    pub none_tested : (n : ℕ) → HasPaths (IsToDaughter rows) n → n ≤ 0
+    none_tested n has = subst (λ k. k ≤ 0) has.many (by has.paths (subst (λ l. AllByRecursion (IsToDaughter l) has.paths) none has.each))
+      where
+        by : (paths : List (List ℕ)) → AllByRecursion (IsToDaughter []) paths → length paths ≤ 0
+        by [] each = omega arith
+        by (path ∷ paths) each = absurd each.0.1
 
-none_of_none : (paths : List (List ℕ)) → ArePathsOf [] paths → length paths ≤ 0
-none_of_none [] are = omega arith
-none_of_none (p ∷ ps) ((some, is), are) = absurd is
+    pub none_read : (n : ℕ) → HasPaths (IsToHeader h rows) n → n ≤ 0
+    none_read n has = subst (λ k. k ≤ 0) has.many (by has.paths (subst (λ l. AllByRecursion (IsToHeader h l) has.paths) none has.each))
+      where
+        by : (paths : List (List ℕ)) → AllByRecursion (IsToHeader h []) paths → length paths ≤ 0
+        by [] each = omega arith
+        by (path ∷ paths) each = absurd each.0.on
 
-pub no_fewer : (h : Hierarchy) → IsTree h → IsClean h → (ray : Ray) → HasDirection ray → (rows : List Row) → IsReport (path_along h ray) rows
-    → (n : ℕ) → IsTestCount h ray n → (paths : List (List ℕ)) → AreDifferent paths → ArePathsOf rows paths → length paths ≤ n
-no_fewer h tree clean ray moves rows report n counted paths different are =
-    subst (λ k. length paths ≤ k) (sym counted.count) (by counted.span (subst (λ l. ArePathsOf l paths) same are))
-  where
-    found : Frame → ℕ → Option (Hit Frame)
-    found = counted.found
+  module _ (v : ℕ) (same : v ≡ h.world) (span : Span) (clip : IsClip (solid_at h h.world) ray (Some span)) (rows : List Row) (is : IsReport (path_along h ray) rows) where
+    abbrev from : RayParameter
+    from = parameter_of span.from
 
-    same : rows ≡ open_rows (pieces_along h found ray counted.span)
-    same = unique (path_along h ray) rows (open_rows (pieces_along h found ray counted.span)) report (open_report h tree clean found counted.is_found ray moves counted.span counted.is_span)
+    abbrev to : RayParameter
+    to = parameter_of span.to
 
-    world : Frame
-    world = record { volume = h.world; ray = ray }
+    abbrev world : Frame
+    world = record { volume = v; ray = ray }
 
-    all_known : (span : Span) (ps : List (List ℕ)) → ArePathsOf (open_rows (pieces_along h found ray (Some span))) ps → AllByRecursion (λ p. IsOne p (met_paths (met_in h found) max_depth world)) ps
-    all_known span [] are = tt
-    all_known span (p ∷ ps) ((some, is), are) = (
-      row_known (met_in h found) (met_paths (met_in h found) max_depth world) (pieces_along h found ray (Some span)) p
-          (known_pieces (met_in h found) max_depth (parameter_of span.from) (parameter_of span.to) world) some is,
-      all_known span ps are,
-    )
+    abbrev pieces : List Piece
+    pieces = pieces_of (hits h) max_length from to world
 
-    by : (span : Option Span) → ArePathsOf (open_rows (pieces_along h found ray span)) paths → length paths ≤ tests_along h found ray span
-    by None are = none_of_none paths are
-    by (Some span) are =
-        let few = no_more_met (met_in h found) (λ f. length (instances h f.volume)) (λ f. length-sorted (found f) (length (instances h f.volume))) max_depth world in
-        omega (arith, few, no_more paths (met_paths (met_in h found) max_depth world) different (all_known span paths are))
+    are : rows ≡ open_rows pieces
+    are = unique (path_along h ray) rows (open_rows pieces) is (report h tree clean ray moves v same span clip)
+
+    pub some_tested : (n : ℕ) → HasPaths (IsToDaughter rows) n → n ≤ cost_of (one_each (hits h)) (hits h) max_length from to world
+    some_tested n has = subst (λ k. k ≤ cost_of (one_each (hits h)) (hits h) max_length from to world) has.many
+        (omega (arith, length-met (hits h) max_length from to world, no_more has.paths (met_paths (hits h) max_length world) has.different (by has.paths (subst (λ l. AllByRecursion (IsToDaughter l) has.paths) are has.each))))
+      where
+        by : (paths : List (List ℕ)) → AllByRecursion (IsToDaughter (open_rows pieces)) paths → AllByRecursion (λ p. IsOne p (met_paths (hits h) max_length world)) paths
+        by [] each = tt
+        by (path ∷ paths) ((some, row), each) = (row_known (met_paths (hits h) max_length world) pieces path (known_pieces (hits h) max_length from to world) some row, by paths each)
+
+    abbrev has_header : Frame → Bool
+    has_header f = is_some (cut_by h f.volume (volume_at h.volumes f.volume).placements)
+
+    abbrev LeadsToHeader : Frame → List ℕ → Type 0
+    LeadsToHeader f path = (w : ℕ) × Leads (daughter_of h) f.volume path w × HasHeader h w
+
+    header_here : (f : Frame) → LeadsToHeader f [] → has_header f ≡ true
+    header_here f (w, leads, cut, is) = ap (λ (u : ℕ). is_some (cut_by h u (volume_at h.volumes u).placements)) leads ∙ ap is_some is
+
+    header_there : (f : Frame) → AllByRecursion (λ (hit : Hit Frame). (path : List ℕ) → LeadsToHeader f (hit.ordinal ∷ path) → LeadsToHeader hit.daughter path) (hits h f)
+    header_there f = by (hits h f) (linked h f)
+      where
+        by : (hs : List (Hit Frame)) → AllByRecursion (λ (hit : Hit Frame). daughter_of h f.volume hit.ordinal ≡ Some hit.daughter.volume) hs
+            → AllByRecursion (λ (hit : Hit Frame). (path : List ℕ) → LeadsToHeader f (hit.ordinal ∷ path) → LeadsToHeader hit.daughter path) hs
+        by [] all = tt
+        by (hit ∷ hs) all = (
+          (λ path leads.
+          let u = leads.1.0 in
+          let one : u.0 ≡ hit.daughter.volume = let e : Some u.0 ≡ Some hit.daughter.volume = sym u.1 ∙ all.0 in cc in
+          (leads.0, subst (λ (x : ℕ). Leads (daughter_of h) x path leads.0) one u.2, leads.1.1)),
+          by hs all.1,
+        )
+
+    pub some_read : (n : ℕ) → HasPaths (IsToHeader h rows) n → n ≤ cost_of (least_each (λ f. least_of h (place f))) (hits h) max_length from to world
+    some_read n has = subst (λ k. k ≤ cost_of (least_each (λ f. least_of h (place f))) (hits h) max_length from to world) has.many
+        (omega (
+        arith,
+        ap (λ c. cost_of (least_each c) (hits h) max_length from to world) least_is,
+        length-header (hits h) has_header max_length from to world,
+        no_more has.paths (header_paths (hits h) has_header max_length world) has.different (by has.paths (subst (λ l. AllByRecursion (IsToHeader h l) has.paths) are has.each)),
+        ))
+      where
+        one_of : (o : Option Cut) → (if is_some o then 1 else 0) ≡ elim o [ None ↦ 0 | Some cut ↦ 1 ]
+        one_of None = refl
+        one_of (Some cut) = refl
+
+        least_is : (λ (f : Frame). if has_header f then 1 else 0) ≡ (λ f. least_of h (place f))
+        least_is i f = one_of (cut_by h f.volume (volume_at h.volumes f.volume).placements) i
+
+        by : (paths : List (List ℕ)) → AllByRecursion (IsToHeader h (open_rows pieces)) paths → AllByRecursion (λ p. IsOne p (header_paths (hits h) has_header max_length world)) paths
+        by [] each = tt
+        by (path ∷ paths) (one, each) = (
+          row_fronted (hits h) has_header LeadsToHeader header_here header_there world (header_paths (hits h) has_header max_length world) pieces path
+              (fronted_pieces (hits h) has_header LeadsToHeader header_here header_there max_length from to world)
+              (one.volume, subst (λ (w : ℕ). Leads (daughter_of h) w path one.volume) (sym same) one.leads, one.header) one.on,
+          by paths each,
+        )

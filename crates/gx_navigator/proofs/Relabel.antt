@@ -6,7 +6,7 @@ use Rattle.std.proofs.lemmas.List.Sums.{sum_by-cons}
 use Rattle.gx_num.specs.Ray.{RayParameter}
 use Rattle.gx_partition.specs.Partition.{Piece, is_below}
 use Rattle.gx_partition.specs.Walk.{Hit, gap, under, walk, pieces_of, insert_hit, insert_found, sorted}
-use Rattle.gx_walk.specs.Hits.{cost_of}
+use Rattle.gx_walk.specs.Hits.{CountOf, cost_of}
 
 module _ {D E : Type 0} (f : D → E) where
   abbrev pub relabel : Hit D → Hit E
@@ -49,8 +49,9 @@ module _ {D E : Type 0} (f : D → E) where
         ap (walk (λ h. pieces_of others n h.from h.to h.daughter) from false to) (same d)
         ∙ walk-relabel (λ h. pieces_of hits n h.from h.to h.daughter) (λ h. pieces_of others n h.from h.to h.daughter) (λ h. pieces-relabel n h.from h.to h.daughter) from false to (hits d)
 
-    pub cost-relabel : (count : E → ℕ) (n : ℕ) (d : D) → cost_of count others n (f d) ≡ cost_of (λ d. count (f d)) hits n d
-    cost-relabel count zero d = refl
-    cost-relabel count (suc n) d =
-        ap (λ l. count (f d) + sum_by (λ h. cost_of count others n h.daughter) l) (same d)
-        ∙ ap (λ s. count (f d) + s) (sum-relabel (λ h. cost_of (λ d. count (f d)) hits n h.daughter) (λ h. cost_of count others n h.daughter) (λ h. cost-relabel count n h.daughter) (hits d))
+    pub cost-relabel : (count : CountOf E) (n : ℕ) (from to : RayParameter) (d : D) → cost_of count others n from to (f d) ≡ cost_of (λ d. count (f d)) hits n from to d
+    cost-relabel count zero from to d = refl
+    cost-relabel count (suc n) from to d =
+        ap (λ l. count (f d) from to + sum_by (λ h. cost_of count others n h.from h.to h.daughter) l) (same d)
+        ∙ ap (λ s. count (f d) from to + s)
+        (sum-relabel (λ h. cost_of (λ d. count (f d)) hits n h.from h.to h.daughter) (λ h. cost_of count others n h.from h.to h.daughter) (λ h. cost-relabel count n h.from h.to h.daughter) (hits d))

@@ -1,34 +1,15 @@
--- The part of a ray that is inside a bounded solid is found, and spans with the same ends are the same.
-use Rattle.std.proofs.Common.{◌≡◌, ℕ, ℤ, pos, ◌<◌, refl, ap, subst, arith, List, Option, None, Some}
+-- Spans with the same ends are the same.
+use Rattle.std.proofs.Common.{◌≡◌, ℕ, ℤ, pos, refl, ap, subst, arith, Option, None, Some}
 use Rattle.std.specs.Prelude.{◌≤ℤ◌, unsigned_abs}
 use Rattle.std.proofs.lemmas.Int.{ints}
 use Rattle.std.proofs.Props.{props}
 use Rattle.gx_num.specs.declared.ray.Ray.{Ray}
-use Rattle.gx_num.specs.Space.{HalfSpace}
-use Rattle.gx_num.specs.Ray.{RayParameter, HasDirection, IsBelow}
+use Rattle.gx_num.specs.Ray.{RayParameter, IsBelow}
 use Rattle.gx_fraction.specs.Fraction.{Fraction, parameter_of}
 use Rattle.gx_clip.specs.declared.span.Span.{Span}
-use Rattle.gx_clip.specs.declared.interval.Interval.{Interval}
-use Rattle.gx_clip.specs.Clip.{IsBounded, IsClip}
-use Rattle.gx_clip.specs.Interval.{whole, part_inside}
-use Rattle.gx_clip.proofs.Clips.{from_none, from_span, endless}
-use Rattle.gx_clip.proofs.Parts.{HasDen, IsProper}
 use Rattle.gx_tree.specs.declared.instance.Instance.{Instance}
 use Rattle.gx_partition.specs.Walk.{Hit}
 use Rattle.gx_nest.specs.Met.{Frame, hit_of}
-use Rattle.gx_navigator.specs.Tracer.{between, up_to, span_of, clip_of}
-
-module _ (solid : List HalfSpace) (ray : Ray) (bounded : IsBounded solid) (moves : HasDirection ray) where
-  up_to-clip : (i : Interval) → part_inside (Some whole) solid ray ≡ Some i → (to : Option RayParameter) → i.to ≡ to → (d : 0 < i.from.den) (e : HasDen to) → IsClip solid ray (up_to i.from to d e)
-  up_to-clip i is None end d e = absurd (endless solid ray bounded moves i is end)
-  up_to-clip i is (Some to) end d e = let span = between i.from to d e in from_span solid ray i to span.0 is end span.1
-
-  span_of-clip : (o : Option Interval) (proper : IsProper o) → part_inside (Some whole) solid ray ≡ o → IsClip solid ray (span_of o proper)
-  span_of-clip None proper is = from_none solid ray is
-  span_of-clip (Some i) proper is = up_to-clip i is i.to refl proper.0 proper.1
-
-  pub clip_of-clip : IsClip solid ray (clip_of solid ray)
-  clip_of-clip = span_of-clip (part_inside (Some whole) solid ray) _ refl
 
 same_number : (p q : ℤ) → pos 0 ≤ℤ p → pos 0 ≤ℤ q → unsigned_abs p ≡ unsigned_abs q → p ≡ q
 same_number p q h k e = omega (arith, ints, h, k, e)

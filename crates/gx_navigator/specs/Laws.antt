@@ -1,19 +1,13 @@
--- The laws of tests.
-use Rattle.std.specs.Prelude.{ℕ, ◌≤◌, List, length}
+-- The law of costs.
+use Rattle.std.specs.Prelude.{ℕ}
 use Rattle.gx_num.specs.declared.ray.Ray.{Ray}
 use Rattle.gx_num.specs.Ray.{HasDirection}
 use Rattle.gx_tree.specs.Hierarchy.{Hierarchy}
 use Rattle.gx_tree.specs.Fault.{IsTree}
-use Rattle.gx_tree.specs.Deepest.{path_along}
-use Rattle.gx_check.specs.Clean.{IsClean}
-use Rattle.gx_path.specs.Report.{Row, IsReport}
-use Rattle.gx_navigator.specs.Tests.{IsTestCount, AreDifferent, ArePathsOf}
+use Rattle.gx_nest.specs.Met.{Frame}
+use Rattle.gx_walk.specs.Hits.{CountOf}
+use Rattle.gx_navigator.specs.Tests.{IsCost}
 
--- each ray that has a direction has a count of tests
-abbrev pub EachRayHasATestCount : Type 0
-EachRayHasATestCount = (h : Hierarchy) → IsTree h → (ray : Ray) → HasDirection ray → (n : ℕ) × IsTestCount h ray n
-
--- no fewer daughters are tested than there are different paths to daughters in the report
-abbrev pub NoFewerTests : Type 0
-NoFewerTests = (h : Hierarchy) → IsTree h → IsClean h → (ray : Ray) → HasDirection ray → (rows : List Row) → IsReport (path_along h ray) rows
-    → (n : ℕ) → IsTestCount h ray n → (paths : List (List ℕ)) → AreDifferent paths → ArePathsOf rows paths → length paths ≤ n
+-- whatever is counted, it adds up to some number along each ray that has a direction
+abbrev pub EachRayHasACost : Type 0
+EachRayHasACost = (h : Hierarchy) → IsTree h → (count : CountOf Frame) (ray : Ray) → HasDirection ray → (n : ℕ) × IsCost h count ray n

@@ -1,3 +1,4 @@
+pub mod Clipped
 pub mod Laws
 pub mod Paths
 pub mod Tests

@@ -1,12 +1,7 @@
-//! Laws over the definitions, each the contract of a function that does nothing.
-ghost use Rattle.gx_navigator.specs.Laws.{EachRayHasATestCount, NoFewerTests};
+//! A law over the definitions, the contract of a function that does nothing.
+ghost use Rattle.gx_navigator.specs.Laws.{EachRayHasACost};
 
-/// In a tree each ray that has a direction has a count of tests.
-pub fn each_ray_has_a_test_count()
-    ensures { EachRayHasATestCount }
-{}
-
-/// No fewer daughters are tested than there are different paths to daughters in the report.
-pub fn no_fewer_tests()
-    ensures { NoFewerTests }
+/// Whatever is counted, it adds up to some number along each ray that has a direction.
+pub fn each_ray_has_a_cost()
+    ensures { EachRayHasACost }
 {}

@@ -9,7 +9,7 @@ ghost use Rattle.gx_path.specs.declared.row.Row.{Row as Given};
 ghost use Rattle.gx_path.specs.Report.{Row, IsReport};
 ghost use Rattle.gx_walk.specs.Hits.{Leads, items_of};
 ghost use Rattle.gx_navigator.specs.Paths.{daughter_of};
-ghost use Rattle.gx_navigator.specs.Tests.{IsTestCount};
+ghost use Rattle.gx_navigator.specs.Tests.{BoxTest, IsBoxTest, IsCost, HasPaths, IsToDaughter, IsToHeader, tests_in, reads_in};
 
 use crate::tracer::Tracer;
 use gx_io::Failed;
@@ -21,7 +21,9 @@ use gx_walk::{Frame, Scratch, walk_world};
 use std::sync::ledger::Ledger;
 
 /// The rows of the ray's report, one after another. It ends with `Failed` at the first row that isn't taken. The scratch has
-/// room for the daughters of each volume. It takes no memory, and reads no index.
+/// room for the daughters of each volume. It takes no memory. By any test of boxes that passes each box in which the ray has a
+/// point: of each volume that the ray comes to it tests no more daughters than the cells that pass have members, and reads no
+/// more than its headers and runs that pass add up to.
 pub fn trace_ray<R: Rows, T: Ledger, Q: Ledger>(
     sealed: &Sealed,
     ray: &Ray,
@@ -40,8 +42,10 @@ pub fn trace_ray<R: Rows, T: Ledger, Q: Ledger>(
     ensures same_takes { R.takes rows.new ≡ R.takes rows.old }
     ensures cause { HasCause (R.faults rows.old) (R.faults rows.new) result }
     ensures room { scratch.new ≡ scratch.old }
-    ensures tests { (n : ℕ) × IsTestCount sealed.now ray.now n × (tests.new ≤ tests.old + n) × OnOk result (tests.new ≡ tests.old + n) }
-    ensures reads { reads.new ≡ reads.old }
+    ensures few_tests { (passes : BoxTest) → IsBoxTest passes → (n : ℕ) × IsCost sealed.now (tests_in sealed.now passes) ray.now n × (tests.new ≤ tests.old + n) }
+    ensures few_reads { (passes : BoxTest) → IsBoxTest passes → (n : ℕ) × IsCost sealed.now (reads_in sealed.now passes) ray.now n × (reads.new ≤ reads.old + n) }
+    ensures some_tests { OnOk result ((report : List Row) → IsReport (path_along sealed.now ray.now) report → (n : ℕ) → HasPaths (IsToDaughter report) n → tests.old + n ≤ tests.new) }
+    ensures some_reads { OnOk result ((report : List Row) → IsReport (path_along sealed.now ray.now) report → (n : ℕ) → HasPaths (IsToHeader sealed.now report) n → reads.old + n ≤ reads.new) }
 {
     let Some(span) = sealed.world_span(ray) else {
         return Ok(());
@@ -50,5 +54,5 @@ pub fn trace_ray<R: Rows, T: Ledger, Q: Ledger>(
         volume: sealed.world(),
         ray: *ray,
     };
-    walk_world(&Tracer { sealed }, &world, span, scratch, rows, tests)
+    walk_world(&Tracer { sealed }, &world, span, scratch, rows, tests, reads)
 }

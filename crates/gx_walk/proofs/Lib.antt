@@ -4,3 +4,4 @@ pub mod Order
 pub mod Pending
 pub mod Sorted
 pub mod Takes
+pub mod Weights

@@ -13,7 +13,7 @@ use Rattle.gx_path.specs.Report.{Row}
 use Rattle.gx_partition.specs.Walk.{Hit}
 use Rattle.gx_walk.specs.declared.met.Frame.{Frame}
 use Rattle.gx_walk.specs.declared.met.Met.{Met}
-use Rattle.gx_walk.specs.Hits.{hit_of, cost_of}
+use Rattle.gx_walk.specs.Hits.{Count, hit_of, cost_of}
 use Rattle.gx_walk.specs.Giving.{between, within, rows_from, rows_of, items_below}
 use Rattle.gx_walk.proofs.Items.{items-append, items-within, writes-front, writes-on}
 
@@ -94,8 +94,11 @@ module _ (hits : Frame → List (Hit Frame)) (k n : ℕ) (level : n + 1 ≡ k) (
       ∙ ap (λ j. items_below items path (rows_of hits j from to frame)) (sym (add-one n) ∙ level) in
       record { each = λ new result w. subst (λ l. Writes old new l result) is w }
 
-  pub cost-all : (count : Frame → ℕ) → count frame + sum_by (λ h. cost_of count hits n h.daughter) (map hit_of mets) ≡ cost_of count hits k frame
-  cost-all count = ap (λ l. count frame + sum_by (λ h. cost_of count hits n h.daughter) l) same ∙ ap (λ j. cost_of count hits j frame) (sym (add-one n) ∙ level)
+  pub cost-all : (count : Count) (from to : RayParameter) → count frame from to + sum_by (λ h. cost_of count hits n h.from h.to h.daughter) (map hit_of mets) ≡ cost_of count hits k from to frame
+  cost-all count from to = ap (λ l. count frame from to + sum_by (λ h. cost_of count hits n h.from h.to h.daughter) l) same ∙ ap (λ j. cost_of count hits j from to frame) (sym (add-one n) ∙ level)
+
+  pub as-many : length mets ≡ length (hits frame)
+  as-many = sym (length-map hit_of mets) ∙ ap length same
 
 -- the cost of one hit more
 pub sum-next : (f : Hit Frame → ℕ) (mets : List Met) (i : ℕ) (m : Met) → m ≡ get_or mets i m → i < length mets

@@ -1,8 +1,8 @@
 -- The daughters met, sorted by entry, are the hits in the order of entry.
-use Rattle.std.proofs.Common.{◌≡◌, ℕ, zero, suc, ◌+◌, ◌*◌, ◌<◌, ◌≤◌, ◌⊎◌, inl, inr, refl, sym, ap, ◌∙◌, subst, arith, add-one, true, false, ℤ, pos, negsuc, List, [], ◌∷◌, ◌++◌, length, get_or, map, Option, None, Some}
+use Rattle.std.proofs.Common.{◌≡◌, ℕ, zero, suc, ◌+◌, ◌*◌, ◌<◌, ◌≤◌, ◌⊎◌, inl, inr, refl, sym, ap, ◌∙◌, subst, arith, nat_eq, true, false, ℤ, pos, negsuc, List, [], ◌∷◌, ◌++◌, length, get_or, map, Option, None, Some}
 use Rattle.std.specs.Prelude.{sum_by, unsigned_abs, ◌<ℤ◌, ◌≤ℤ◌, ◌*ℤ◌}
 use Rattle.std.specs.List.{All, AllByRecursion}
-use Rattle.std.specs.List.Sorted.{IsPermutation, IsSortedBy}
+use Rattle.std.specs.List.Sorted.{IsDistinct, IsPermutation, IsSortedBy}
 use Rattle.std.specs.Option.{option_map}
 use Rattle.std.specs.Ordering.{MatchOrdering, int_cmp, is_lt, nat_cmp, ordering_then}
 use Rattle.std.specs.declared.cmp.Ordering.{Ordering}
@@ -17,7 +17,9 @@ use Rattle.gx_partition.specs.Walk.{Hit, insert_found, sorted}
 use Rattle.gx_walk.specs.declared.met.Frame.{Frame}
 use Rattle.gx_walk.specs.declared.met.Met.{Met}
 use Rattle.gx_walk.specs.Hits.{hit_of}
-use Rattle.gx_walk.specs.Entry.{AreMet, is_earlier}
+use Rattle.gx_offers.specs.Offers.{IsOneOf}
+use Rattle.gx_walk.specs.Entry.{AreMet, weight, is_earlier}
+use Rattle.gx_walk.proofs.Weights.{sum_below, sum-whole}
 use Rattle.gx_walk.proofs.Order.{IsNoLater, no_later-trans, InOrder, IsKnown, one_list, known-sorted, in_order-sorted, sum-insert}
 
 positive_factor : (a b c : ℕ) → a < b * c → 0 < c
@@ -101,25 +103,50 @@ module _ (met : ℕ → Option Met) where
   abbrev found : ℕ → Option (Hit Frame)
   found k = option_map hit_of (met k)
 
+  -- nothing is met at none
+  pub met_nowhere : AreMet met [] []
+  met_nowhere = record { known = All-nil (λ m. met m.ordinal ≡ Some m); same = λ f. refl }
+
+  weight-last : (f : Hit Frame → ℕ) (ks : List ℕ) (k : ℕ) → sum_by (weight met f) (ks ++ k ∷ []) ≡ sum_by (weight met f) ks + weight met f k
+  weight-last f ks k = sum_by-append (weight met f) ks (k ∷ []) ∙ omega (arith, sum_by-cons (weight met f) k [])
+
   -- a daughter that isn't met
-  pub met_none : (k : ℕ) (mets : List Met) → met k ≡ None → AreMet met k mets → AreMet met (k + 1) mets
-  met_none k mets e h = record {
+  pub met_none : (ks : List ℕ) (k : ℕ) (mets : List Met) → met k ≡ None → AreMet met ks mets → AreMet met (ks ++ k ∷ []) mets
+  met_none ks k mets e h = record {
     known = h.known;
     same = λ f.
-        h.same f ∙ ap (λ o. sum_by f (insert_found (option_map hit_of o) (sorted found k))) (sym e) ∙ ap (λ n. sum_by f (sorted found n)) (sym (add-one k));
+        let none : weight met f k ≡ 0 = ap (λ (o : Option Met). elim o [None ↦ 0 | Some m ↦ f (hit_of m)]) e in
+        omega (arith, h.same f, weight-last f ks k, none);
   }
 
   -- one that is
-  pub met_some : (k : ℕ) (mets : List Met) (m : Met) → met k ≡ Some m → m.ordinal ≡ k → AreMet met k mets → AreMet met (k + 1) (mets ++ m ∷ [])
-  met_some k mets m e is h = record {
+  pub met_some : (ks : List ℕ) (k : ℕ) (mets : List Met) (m : Met) → met k ≡ Some m → m.ordinal ≡ k → AreMet met ks mets → AreMet met (ks ++ k ∷ []) (mets ++ m ∷ [])
+  met_some ks k mets m e is h = record {
     known = All-append (λ m. met m.ordinal ≡ Some m) mets (m ∷ []) h.known (All-cons (λ m. met m.ordinal ≡ Some m) m [] (ap met is ∙ e) (All-nil (λ m. met m.ordinal ≡ Some m)));
     same = λ f.
-        let last : sum_by f (map hit_of (mets ++ m ∷ [])) ≡ f (hit_of m) + sum_by f (sorted found k) =
+        let last : sum_by f (map hit_of (mets ++ m ∷ [])) ≡ sum_by f (map hit_of mets) + f (hit_of m) =
         ap (sum_by f) (map-append hit_of mets (m ∷ [])) ∙ sum_by-append f (map hit_of mets) (hit_of m ∷ [])
-        ∙ omega (arith, h.same f, sum_by-cons f (hit_of m) []) in
-        last ∙ sym (sum-insert f (hit_of m) (sorted found k))
-        ∙ ap (λ o. sum_by f (insert_found (option_map hit_of o) (sorted found k))) (sym e) ∙ ap (λ n. sum_by f (sorted found n)) (sym (add-one k));
+        ∙ omega (arith, sum_by-cons f (hit_of m) []) in
+        let some : weight met f k ≡ f (hit_of m) = ap (λ (o : Option Met). elim o [None ↦ 0 | Some m ↦ f (hit_of m)]) e in
+        omega (arith, last, h.same f, weight-last f ks k, some);
   }
+
+  -- all hits count for as much as the daughters with ordinals below the count
+  sum-sorted : (f : Hit Frame → ℕ) (n : ℕ) → sum_by f (sorted found n) ≡ sum_below (weight met f) n
+  unfolding sum_below
+  sum-sorted f zero = refl
+  sum-sorted f (suc n) = by (met n) (sum-sorted f n)
+    where
+      by : (o : Option Met) → sum_by f (sorted found n) ≡ sum_below (weight met f) n → sum_by f (insert_found (option_map hit_of o) (sorted found n)) ≡ elim o [None ↦ 0 | Some m ↦ f (hit_of m)] + sum_below (weight met f) n
+      by None e = omega (arith, e)
+      by (Some m) e = omega (arith, sum-insert f (hit_of m) (sorted found n), e)
+
+  is_met : (f : Hit Frame → ℕ) (k : ℕ) → 0 < weight met f k → (m : Met) × (met k ≡ Some m)
+  is_met f k some = by (met k) refl some
+    where
+      by : (o : Option Met) → met k ≡ o → 0 < elim o [None ↦ 0 | Some m ↦ f (hit_of m)] → (m : Met) × (met k ≡ Some m)
+      by None e some = absurd (omega (arith, some))
+      by (Some m) e some = (m, e)
 
   some_hit : (k : ℕ) (o : Option Met) (h : Hit Frame) → option_map hit_of o ≡ Some h → (m : Met) × (o ≡ Some m) × (hit_of m ≡ h)
   some_hit k None h e = absurd (cc)
@@ -129,14 +156,17 @@ module _ (met : ℕ → Option Met) where
   each_hit mets known = each_after (IsKnown found) mets (λ j d below. ap (option_map hit_of) (known j d below))
 
   -- sorted, those met are the hits in the order of entry
-  pub sorted-are : (n : ℕ) (mets mets' : List Met) → ((k : ℕ) (m : Met) → met k ≡ Some m → m.ordinal ≡ k) → AreMet met n mets → IsPermutation mets mets' → IsSortedBy is_earlier mets'
+  pub sorted-are : (n : ℕ) (ks : List ℕ) (mets mets' : List Met) → ((k : ℕ) (m : Met) → met k ≡ Some m → m.ordinal ≡ k)
+      → IsDistinct nat_eq ks → AllByRecursion (λ k. k < n) ks → ((k : ℕ) (m : Met) → k < n → met k ≡ Some m → IsOneOf k ks)
+      → AreMet met ks mets → IsPermutation mets mets' → IsSortedBy is_earlier mets'
       → (map hit_of mets' ≡ sorted found n) × All (λ m. met m.ordinal ≡ Some m) mets'
-  sorted-are n mets mets' numbered h moved rising =
+  sorted-are n ks mets mets' numbered distinct below whole h moved rising =
       let known = All-permutation (λ m. met m.ordinal ≡ Some m) mets mets' moved h.known in
       let each : (k : ℕ) (h : Hit Frame) → found k ≡ Some h → (h.ordinal ≡ k) × (0 < h.from.den) = λ k h e.
       let m = some_hit k (met k) h e in
       (ap (λ (h : Hit Frame). h.ordinal) (sym m.2) ∙ numbered k m.0 m.1, subst (λ (h : Hit Frame). 0 < h.from.den) m.2 (positive m.0)) in
-      let same = λ (f : Hit Frame → ℕ). sum-map f mets' ∙ sum_by-IsPermutation (λ m. f (hit_of m)) mets mets' moved ∙ sym (sum-map f mets) ∙ h.same f in
+      let same = λ (f : Hit Frame → ℕ). sum-map f mets' ∙ sum_by-IsPermutation (λ m. f (hit_of m)) mets mets' moved ∙ sym (sum-map f mets) ∙ h.same f
+      ∙ sum-whole (weight met f) n ks distinct below (λ j less some. let m = is_met f j some in whole j m.0 less m.1) ∙ sym (sum-sorted f n) in
       let list : map hit_of mets' ≡ sorted found n =
       one_list found (map hit_of mets') (sorted found n) (in_order mets' (λ i j d le below. sorted_far is_earlier entry_order mets' rising i j d le below)) (in_order-sorted found each n)
       (each_hit mets' known) (known-sorted found each n) same in

@@ -1,5 +1,5 @@
 -- The daughters that a ray meets, what the walk through them costs, and the rows that it gives (this project's own).
-use Rattle.std.specs.Prelude.{◌≡◌, ℕ, zero, suc, pos, ◌+◌, sum_by, List, [], ◌∷◌, Option, Some}
+use Rattle.std.specs.Prelude.{◌≡◌, ℕ, zero, suc, pos, ◌+◌, sum_by, List, [], ◌∷◌, length, Option, Some}
 use Rattle.std.specs.List.{flat_map}
 use Rattle.std.specs.Option.{option_map}
 use Rattle.gx_num.specs.Ray.{RayParameter}
@@ -18,10 +18,25 @@ hit_of m = record { ordinal = m.ordinal; from = parameter_of m.span.from; to = p
 abbrev pub hits_of : (Frame → ℕ → Option Met) → (ℕ → ℕ) → Frame → List (Hit Frame)
 hits_of met count frame = sorted (λ k. option_map hit_of (met frame k)) (count frame.volume)
 
--- the tests of a walk so many levels deep: one for each daughter of each volume that it comes to
-abbrev pub cost_of : {D : Type 0} → (D → ℕ) → (D → List (Hit D)) → ℕ → D → ℕ
-cost_of count hits zero d = 0
-cost_of count hits (suc n) d = count d + sum_by (λ h. cost_of count hits n h.daughter) (hits d)
+-- a number for a volume that a ray is inside between two parameters
+abbrev pub CountOf : Type 0 → Type 0
+CountOf D = D → RayParameter → RayParameter → ℕ
+
+abbrev pub Count : Type 0
+Count = CountOf Frame
+
+-- the sum of these numbers over the volumes that a walk so many levels deep comes to, but for those at the deepest level
+abbrev pub cost_of : {D : Type 0} → CountOf D → (D → List (Hit D)) → ℕ → RayParameter → RayParameter → D → ℕ
+cost_of count hits zero from to d = 0
+cost_of count hits (suc n) from to d = count d from to + sum_by (λ h. cost_of count hits n h.from h.to h.daughter) (hits d)
+
+-- one for each daughter that is met
+abbrev pub one_each : {D : Type 0} → (D → List (Hit D)) → CountOf D
+one_each hits d from to = length (hits d)
+
+-- a number for each volume, whatever the parameters
+abbrev pub least_each : {D : Type 0} → (D → ℕ) → CountOf D
+least_each least d from to = least d
 
 -- a parameter as a fraction
 abbrev pub fraction_of : RayParameter → Fraction

@@ -3,7 +3,7 @@ ghost use Rattle.gx_io.specs.Bytes.{HasCause, Writes};
 ghost use Rattle.gx_fraction.specs.Fraction.{parameter_of};
 ghost use Rattle.gx_path.specs.Path.{max_length};
 ghost use Rattle.gx_path.specs.declared.row.Row.{Row as Given};
-ghost use Rattle.gx_walk.specs.Hits.{hits_of, cost_of};
+ghost use Rattle.gx_walk.specs.Hits.{Count, cost_of, hits_of, one_each, least_each};
 ghost use Rattle.gx_walk.specs.Giving.{HaveRoom, TakesBelow, between, items_below, rows_of};
 
 use crate::collect::collect;
@@ -11,21 +11,26 @@ use crate::{Frame, Geometry, Met};
 use gx_clip::Span;
 use gx_fraction::Frac;
 use gx_io::Failed;
+use gx_offers::Offers;
 use gx_path::{Path, Row, Rows};
 use gx_steps::Steps;
 use std::sync::ledger::Ledger;
 
 // The rows of a volume that the ray is inside in a span, looked into as deep as there are levels.
-pub fn emit<G: Geometry, R: Rows, T: Ledger>(
+#[expect(clippy::too_many_arguments)]
+pub fn emit<G: Geometry, R: Rows, T: Ledger, Q: Ledger>(
     geometry: &G,
     frame: &Frame,
     span: Span,
     levels: &mut [Vec<Met>],
+    offers: &mut Offers,
     path: &mut Path,
     rows: &mut R,
     tests: &mut Steps<T>,
+    reads: &mut Steps<Q>,
 ) -> Result<(), Failed>
-    requires known { G.knows geometry.now (length levels.old) frame.now }
+    requires known { G.knows geometry.now (length levels.old) frame.now span }
+    requires offers { (v : ℕ) → G.count_of geometry.now v ≤ offers.old.room }
     requires room { HaveRoom (G.count_of geometry.now) (map vec_capacity levels.old) }
     requires path { length path.old + length levels.old ≤ max_length }
     requires takes { TakesBelow (R.takes rows.old) (G.daughter_of geometry.now) path.old frame.now.volume }
@@ -35,18 +40,24 @@ pub fn emit<G: Geometry, R: Rows, T: Ledger>(
     ensures same_items { R.items rows.new ≡ R.items rows.old }
     ensures same_takes { R.takes rows.new ≡ R.takes rows.old }
     ensures cause { HasCause (R.faults rows.old) (R.faults rows.new) result }
-    ensures tests { OnOk result (tests.new ≡ tests.old + cost_of (λ f. G.count_of geometry.now f.volume) (hits_of (G.met_of geometry.now) (G.count_of geometry.now)) (length levels.old) frame.now) }
-    ensures few_tests { tests.new ≤ tests.old + cost_of (λ f. G.count_of geometry.now f.volume) (hits_of (G.met_of geometry.now) (G.count_of geometry.now)) (length levels.old) frame.now }
+    ensures offers { offers.new.room ≡ offers.old.room }
+    ensures few_tests { (most other : Count) → G.bounds geometry.now most other → tests.new ≤ tests.old + cost_of most (hits_of (G.met_of geometry.now) (G.count_of geometry.now)) (length levels.old) (parameter_of span.from) (parameter_of span.to) frame.now }
+    ensures few_reads { (other most : Count) → G.bounds geometry.now other most → reads.new ≤ reads.old + cost_of most (hits_of (G.met_of geometry.now) (G.count_of geometry.now)) (length levels.old) (parameter_of span.from) (parameter_of span.to) frame.now }
+    ensures some_tests { OnOk result (tests.old + cost_of (one_each (hits_of (G.met_of geometry.now) (G.count_of geometry.now))) (hits_of (G.met_of geometry.now) (G.count_of geometry.now)) (length levels.old) (parameter_of span.from) (parameter_of span.to) frame.now ≤ tests.new) }
+    ensures some_reads { OnOk result (reads.old + cost_of (least_each (G.least_reads geometry.now)) (hits_of (G.met_of geometry.now) (G.count_of geometry.now)) (length levels.old) (parameter_of span.from) (parameter_of span.to) frame.now ≤ reads.new) }
 {
     let Some((level, deeper)) = levels.split_first_mut() else {
         return give(span.from, span.to, path, rows);
     };
-    collect(geometry, frame, level, tests);
+    let within = span;
+    collect(geometry, frame, within, offers, level, tests, reads);
     let mut at = span.from;
     for met in level.iter() {
         give(at, met.span.from, path, rows)?;
         path.push(met.ordinal);
-        emit(geometry, &met.frame, met.span, deeper, path, rows, tests)?;
+        emit(
+            geometry, &met.frame, met.span, deeper, offers, path, rows, tests, reads,
+        )?;
         path.pop();
         at = met.span.to;
     }

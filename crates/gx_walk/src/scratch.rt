@@ -2,6 +2,7 @@ ghost use Rattle.std.specs.Prelude.{◌≡◌, IfOk};
 
 use crate::Met;
 use gx_num::NoMemory;
+use gx_offers::Offers;
 use std::alloc::Global;
 use std::marker::Model;
 
@@ -9,6 +10,7 @@ use std::marker::Model;
 #[derive(Drop)]
 pub struct Scratch {
     pub(crate) levels: Vec<Vec<Met>>,
+    pub(crate) offers: Offers,
     room: u32,
 }
 
@@ -21,7 +23,7 @@ impl Model for Scratch {
 
     ghost view = { λ s. s.room };
 
-    ghost invariant = { λ s. (length s.levels.items ≡ max_length) × AllByRecursion (λ capacity. s.room ≤ capacity) (map vec_capacity s.levels.items) };
+    ghost invariant = { λ s. (length s.levels.items ≡ max_length) × (s.room ≤ s.offers.room) × AllByRecursion (λ capacity. s.room ≤ capacity) (map vec_capacity s.levels.items) };
 }
 
 impl Scratch {
@@ -34,7 +36,12 @@ impl Scratch {
         for _ in 0..32u32 {
             levels.push(Vec::with_capacity(alloc, room as usize)?)?;
         }
-        Ok(Scratch { levels, room })
+        let offers = Offers::new(alloc, room)?;
+        Ok(Scratch {
+            levels,
+            offers,
+            room,
+        })
     }
 
     pub fn room(&self) -> u32

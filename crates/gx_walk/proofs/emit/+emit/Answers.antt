@@ -1,19 +1,18 @@
-use Rattle.std.proofs.Common.{arith, rules, List, Vec, Global, vec_capacity, ◌≡◌, ◌+◌, ◌-◌, ◌≤◌, ◌++◌, ◌∷◌, [], length, length-append, take, map, refl, sym, ap, ◌∙◌, subst}
+use Rattle.std.proofs.Common.{ℕ, arith, rules, List, Vec, Global, vec_capacity, ◌≡◌, ◌+◌, ◌-◌, ◌≤◌, ◌++◌, ◌∷◌, [], length, length-append, take, map, refl, sym, ap, ◌∙◌, subst}
 use Rattle.gx_fraction.specs.Fraction.{parameter_of}
 use Rattle.gx_path.specs.Path.{max_length}
 use Rattle.gx_partition.specs.Walk.{Hit}
 use Rattle.gx_walk.specs.declared.met.Frame.{Frame}
 use Rattle.gx_walk.specs.declared.met.Met.{Met}
-use Rattle.gx_walk.specs.Hits.{cost_of, hit_of, hits_of}
+use Rattle.gx_walk.specs.Hits.{Count, cost_of, hit_of, hits_of, least_each, one_each}
 use Rattle.gx_walk.specs.Giving.{HaveRoom, between, items_below, rows_of}
 use Rattle.gx_walk.proofs.Items.{same-below}
-use Rattle.gx_walk.proofs.Pending.{cost-all, owes-all, owes-next, popped, stopped-before, stopped-within, sum-next, written-last}
+use Rattle.gx_walk.proofs.Pending.{as-many, cost-all, owes-all, owes-next, popped, stopped-before, stopped-within, sum-next, written-last}
 use Rattle.gx_walk.proofs.Takes.{known-at, takes-own, takes-within}
 use Rattle.gx_walk.proofs.emit.+emit.Goals as goal
 
 pub loop-met-init : goal.loop-met-init
 loop-met-init g t c =
-    let count = λ (f : Frame). g.G.Geometry.count_of c.args.geometry.now f.volume in
     let hits = hits_of (g.G.Geometry.met_of c.args.geometry.now) (g.G.Geometry.count_of c.args.geometry.now) in
     let k = length c.args.levels.now in
     let n = length c.in-Some.deeper.now in
@@ -21,6 +20,7 @@ loop-met-init g t c =
     let mets = c.deref-met-items.result.now in
     let same = ap (map hit_of) c.deref-met-items.ensures.value ∙ c.collect.ensures.hits in
     let level = c.in-Some.ensures.cases.1 in
+    let all = λ (count : Count). cost-all hits k n level frame mets same count (parameter_of c.args.span.from) (parameter_of c.args.span.to) in
     record {
       room = refl;
       path = refl;
@@ -28,7 +28,11 @@ loop-met-init g t c =
       items = refl;
       takes = refl;
       faults = refl;
-      tests = omega (arith, c.collect.ensures.tests, cost-all hits k n level frame mets same count);
+      offers = c.collect.ensures.offers;
+      few_tests = λ most other b. omega (arith, c.collect.ensures.few_tests most other b, all most);
+      few_reads = λ other most b. omega (arith, c.collect.ensures.few_reads other most b, all most);
+      some_tests = omega (arith, c.collect.ensures.some_tests, ap length c.deref-met-items.ensures.value, as-many hits k n level frame mets same, all (one_each hits));
+      some_reads = omega (arith, c.collect.ensures.some_reads, all (least_each (g.G.Geometry.least_reads c.args.geometry.now)));
       rows = owes-all hits k n level frame mets same (g.R.Rows.items c.args.rows.now) c.args.path.now (parameter_of c.args.span.from) (parameter_of c.args.span.to) (g.R.Rows.held c.args.rows.now);
     }
 
@@ -87,7 +91,6 @@ pub loop-met-preserved : goal.loop-met-preserved
 loop-met-preserved g t c =
     let items = g.R.Rows.items c.args.rows.now in
     let path = c.args.path.now in
-    let count = λ (f : Frame). g.G.Geometry.count_of c.args.geometry.now f.volume in
     let hits = hits_of (g.G.Geometry.met_of c.args.geometry.now) (g.G.Geometry.count_of c.args.geometry.now) in
     let n = length c.in-Some.deeper.now in
     let mets = c.deref-met-items.result.now in
@@ -100,8 +103,10 @@ loop-met-preserved g t c =
     let below = path ++ met.ordinal ∷ [] in
     let pushed = c.push.ensures ∙ ap (λ p. p ++ met.ordinal ∷ []) inv.path in
     let kept = c.in_ok-give.ensures.same_items ∙ inv.items in
-    let cost = λ (h : Hit Frame). cost_of count hits n h.daughter in
-    let more : c.emit.new.tests ≡ c.loop-met.tests + cost (hit_of met) = c.in_ok-emit.ensures.tests ∙ ap (λ j. c.loop-met.tests + cost_of count hits j met.frame) c.loop-met.auto.deeper in
+    let deep = c.loop-met.auto.deeper in
+    let next = λ (count : Count). sum-next (λ (h : Hit Frame). cost_of count hits n h.from h.to h.daughter) mets i met c.met-item.is c.loop-met-test.true in
+    let at = λ (count : Count). ap (λ j. cost_of count hits j from to met.frame) deep in
+    let least = least_each (g.G.Geometry.least_reads c.args.geometry.now) in
     record {
       room = c.in_ok-emit.ensures.room ∙ inv.room;
       path = c.pop.ensures.rest ∙ ap (λ p. take (length p - 1) p) (c.in_ok-emit.ensures.path ∙ pushed) ∙ popped path met.ordinal;
@@ -109,7 +114,11 @@ loop-met-preserved g t c =
       items = c.in_ok-emit.ensures.same_items ∙ kept;
       takes = c.in_ok-emit.ensures.same_takes ∙ c.in_ok-give.ensures.same_takes ∙ inv.takes;
       faults = c.in_ok-emit.ensures.cause.kept ∙ c.in_ok-give.ensures.cause.kept ∙ inv.faults;
-      tests = omega (arith, more, sum-next cost mets i met c.met-item.is c.loop-met-test.true, inv.tests);
+      offers = c.in_ok-emit.ensures.offers ∙ inv.offers;
+      few_tests = λ most other b. omega (arith, c.in_ok-emit.ensures.few_tests most other b, at most, next most, inv.few_tests most other b);
+      few_reads = λ other most b. omega (arith, c.in_ok-emit.ensures.few_reads other most b, at most, next most, inv.few_reads other most b);
+      some_tests = omega (arith, c.in_ok-emit.ensures.some_tests, at (one_each hits), next (one_each hits), inv.some_tests);
+      some_reads = omega (arith, c.in_ok-emit.ensures.some_reads, at least, next least, inv.some_reads);
       rows = owes-next items path (λ (h : Hit Frame). rows_of hits n h.from h.to h.daughter) (parameter_of c.args.span.to) (g.R.Rows.held c.args.rows.now) (g.R.Rows.held c.loop-met.rows) _ s
           mets i inv.rows met c.met-item.is c.loop-met-test.true
           (g.R.Rows.held c.give-in-loop-met.new.rows) _ (same-below items (g.R.Rows.items c.loop-met.rows) path c.loop-met.path (between s from) inv.items inv.path) c.in_ok-give.ensures.rows.all
@@ -130,15 +139,16 @@ emit-requires g t c κs lives =
     let count = g.G.Geometry.count_of c.args.geometry.now in
     let inv = c.loop-met.invariant in
     let known = known-at met_of c.deref-met-items.result.now c.collect.new.hits.items c.loop-met.met-index met c.collect.ensures.known c.deref-met-items.ensures.value c.met-item.is c.loop-met-test.true in
-    let below = subst (λ j. g.G.Geometry.knows c.args.geometry.now j frame) (sym c.in-Some.ensures.cases.1) c.requires.known in
-    let knows = subst (λ j. g.G.Geometry.knows c.args.geometry.now j met.frame) (sym c.loop-met.auto.deeper) (g.met.G.Geometry.knows_met c.args.geometry.now frame (length c.in-Some.deeper.now) met.ordinal met below known) in
+    let below = subst (λ j. g.G.Geometry.knows c.args.geometry.now j frame c.args.span) (sym c.in-Some.ensures.cases.1) c.requires.known in
+    let knows = subst (λ j. g.G.Geometry.knows c.args.geometry.now j met.frame met.span) (sym c.loop-met.auto.deeper) (g.met.G.Geometry.knows_met c.args.geometry.now frame (length c.in-Some.deeper.now) c.args.span met.ordinal met below known) in
     let into = (g.met.G.Geometry.meets c.args.geometry.now frame met.ordinal met known).1 in
     let takes = takes-within (g.R.Rows.takes c.args.rows.now) (g.R.Rows.takes c.give-in-loop-met.new.rows) daughter path c.loop-met.path frame.volume c.requires.takes
     (c.in_ok-give.ensures.same_takes ∙ inv.takes) inv.path met.ordinal met.frame.volume c.push.new.self into c.push.ensures in
+    let offers = λ (v : ℕ). subst (λ r. count v ≤ r) (sym c.loop-met.invariant.offers) (c.requires.offers v) in
     let room = subst (HaveRoom count) (sym inv.room) (subst (λ (levels : List (Vec Met Global)). HaveRoom count (map vec_capacity levels)) c.in-Some.ensures.cases.0 c.requires.room).1 in
     let longer : length c.push.new.self ≡ length path + 1 = ap length (c.push.ensures ∙ ap (λ p. p ++ met.ordinal ∷ []) inv.path) ∙ length-append path (met.ordinal ∷ []) in
     let short : length c.push.new.self + length c.loop-met.deeper ≤ max_length = omega (arith, longer, c.loop-met.auto.deeper, c.in-Some.ensures.cases.1, c.requires.path) in
-    (search rules, (lives.0, (lives.1.0, (lives.1.1.0, (lives.1.1.1, (knows, (room, (short, takes))))))))
+    (search rules, (lives.0, (lives.1.0, (lives.1.1.0, (lives.1.1.1, (knows, (offers, (room, (short, takes)))))))))
 
 pub returns-clause-rows : goal.returns-clause-rows
 returns-clause-rows g t c =
@@ -153,12 +163,19 @@ returns-clause-rows g t c =
     (same-below items (g.R.Rows.items c.loop-met.rows) c.args.path.now c.loop-met.path (between s to) inv.items inv.path) c.give-2.ensures.rows
 
 pub returns-in_err-emit-clause-few_tests : goal.returns-in_err-emit-clause-few_tests
-returns-in_err-emit-clause-few_tests g t c =
-    let count = λ (f : Frame). g.G.Geometry.count_of c.args.geometry.now f.volume in
+returns-in_err-emit-clause-few_tests g t c most other b =
     let hits = hits_of (g.G.Geometry.met_of c.args.geometry.now) (g.G.Geometry.count_of c.args.geometry.now) in
     let n = length c.in-Some.deeper.now in
     let met = c.met-item.result in
-    let cost = λ (h : Hit Frame). cost_of count hits n h.daughter in
-    let few : c.emit.new.tests ≤ c.loop-met.tests + cost (hit_of met) =
-    subst (λ j. c.emit.new.tests ≤ c.loop-met.tests + cost_of count hits j met.frame) c.loop-met.auto.deeper c.in_err-emit.ensures.few_tests in
-    omega (arith, few, sum-next cost c.deref-met-items.result.now c.loop-met.met-index met c.met-item.is c.loop-met-test.true, c.loop-met.invariant.tests)
+    let at = ap (λ j. cost_of most hits j (parameter_of met.span.from) (parameter_of met.span.to) met.frame) c.loop-met.auto.deeper in
+    let next = sum-next (λ (h : Hit Frame). cost_of most hits n h.from h.to h.daughter) c.deref-met-items.result.now c.loop-met.met-index met c.met-item.is c.loop-met-test.true in
+    omega (arith, c.in_err-emit.ensures.few_tests most other b, at, next, c.loop-met.invariant.few_tests most other b)
+
+pub returns-in_err-emit-clause-few_reads : goal.returns-in_err-emit-clause-few_reads
+returns-in_err-emit-clause-few_reads g t c other most b =
+    let hits = hits_of (g.G.Geometry.met_of c.args.geometry.now) (g.G.Geometry.count_of c.args.geometry.now) in
+    let n = length c.in-Some.deeper.now in
+    let met = c.met-item.result in
+    let at = ap (λ j. cost_of most hits j (parameter_of met.span.from) (parameter_of met.span.to) met.frame) c.loop-met.auto.deeper in
+    let next = sum-next (λ (h : Hit Frame). cost_of most hits n h.from h.to h.daughter) c.deref-met-items.result.now c.loop-met.met-index met c.met-item.is c.loop-met-test.true in
+    omega (arith, c.in_err-emit.ensures.few_reads other most b, at, next, c.loop-met.invariant.few_reads other most b)
