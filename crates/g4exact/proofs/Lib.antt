@@ -6,5 +6,5 @@ mod Numbers
 pub mod Paths
 pub mod Runs
 mod Samples
-pub mod Tested
+pub mod Counters
 pub mod Traces

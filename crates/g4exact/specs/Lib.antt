@@ -3,4 +3,4 @@ pub mod Ends
 pub mod Laws
 pub mod Marks
 pub mod Output
-pub mod Tests
+pub mod Counters

@@ -4,7 +4,7 @@ ghost use Rattle.gx_io.specs.Bytes.{with_after};
 ghost use Rattle.g4exact.specs.declared.command.Command.TheVariants.{Reading};
 ghost use Rattle.g4exact.specs.Output.{IsAnswer};
 ghost use Rattle.g4exact.specs.Ends.{Ends, Blames, Answers, HasIoCause};
-ghost use Rattle.g4exact.specs.Tests.{AnswersTested, status_of};
+ghost use Rattle.g4exact.specs.Counters.{AnswersCounted, status_of, counters};
 
 use crate::check::write_check;
 use crate::command::Verb;
@@ -31,8 +31,7 @@ pub fn answer<K: Sink, T: Ledger, Q: Ledger>(
 ) -> Status
     ensures output { (grid : Fraction) → Ends (Some (Reading verb grid)) (IsAnswer verb read) (K.written sink.old) (K.written sink.new) result }
     ensures blames { (source : ℕ) → Blames source source (K.faults sink.old) (K.faults sink.new) result }
-    ensures tests { AnswersTested verb read tests.old tests.new result }
-    ensures reads { reads.new ≡ reads.old }
+    ensures counts { AnswersCounted verb read (counters tests.old reads.old) (counters tests.new reads.new) result }
 {
     let Ok(buffer) = Buffer::new(alloc) else {
         return Status::NoMemory;
@@ -63,8 +62,7 @@ fn answer_lent<'a, K: Sink, L: Loan, T: Ledger, Q: Ledger>(
     ensures same_reference { result.1.ghost_name ≡ sink.entry.ghost_name }
     ensures output { Answers verb (IsAnswer verb read) (K.written sink.old) (K.written result.1.now) result.0 }
     ensures cause { HasIoCause (K.faults sink.old) (K.faults result.1.now) result.0 }
-    ensures tests { AnswersTested verb read tests.old tests.new (status_of result.0) }
-    ensures reads { reads.new ≡ reads.old }
+    ensures counts { AnswersCounted verb read (counters tests.old reads.old) (counters tests.new reads.new) (status_of result.0) }
 {
     let lent: Lent<'a, K, L> = Lent {
         sink,
@@ -89,8 +87,7 @@ fn answer_and_flush<K: Sink + Drop, T: Ledger, Q: Ledger>(
     ensures output { Answers verb (IsAnswer verb read) (K.written buffered.old.inner) (with_after (K.written buffered.new.inner) buffered.new.buffer) result }
     ensures all { OnOk result (buffered.new.buffer ≡ []) }
     ensures cause { HasIoCause (K.faults buffered.old.inner) (K.faults buffered.new.inner) result }
-    ensures tests { AnswersTested verb read tests.old tests.new (status_of result) }
-    ensures reads { reads.new ≡ reads.old }
+    ensures counts { AnswersCounted verb read (counters tests.old reads.old) (counters tests.new reads.new) (status_of result) }
 {
     let status = write_answer(alloc, verb, read, buffered, tests, reads)?;
     buffered.flush()?;
@@ -107,8 +104,7 @@ fn write_answer<K: Sink, T: Ledger, Q: Ledger>(
 ) -> Result<Status, IoError>
     ensures output { Answers verb (IsAnswer verb read) (K.written sink.old) (K.written sink.new) result }
     ensures cause { HasIoCause (K.faults sink.old) (K.faults sink.new) result }
-    ensures tests { AnswersTested verb read tests.old tests.new (status_of result) }
-    ensures reads { reads.new ≡ reads.old }
+    ensures counts { AnswersCounted verb read (counters tests.old reads.old) (counters tests.new reads.new) (status_of result) }
 {
     match read {
         Ok(input) => match verb {

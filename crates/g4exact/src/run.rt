@@ -7,7 +7,7 @@ ghost use Rattle.gx_canon.specs.Canonical.{millimetre};
 ghost use Rattle.gx_sample.specs.Text.{sample_text as text_of_sample};
 ghost use Rattle.g4exact.specs.declared.outcome.Status.TheVariants.{ReadFault};
 ghost use Rattle.g4exact.specs.Ends.{Ends, IsTold, IsRead, JudgesWords, NamesWords, Blames, HasFailed, RunsTo};
-ghost use Rattle.g4exact.specs.Tests.{IsTested};
+ghost use Rattle.g4exact.specs.Counters.{IsCounted, counters};
 
 use crate::answer::answer;
 use crate::command::{Command, Telling, Verb, command_from};
@@ -34,12 +34,13 @@ pub fn run<S: Source, K: Sink, T: Ledger, Q: Ledger>(
     reads: &mut Steps<Q>,
 ) -> Status
     // What is written is the output for the words and the source's bytes: all of it, a front of it, or nothing, by the status;
-    // where neither count of faults is the next one, all of it, unless memory was wanting. Daughters are tested for the reports
-    // alone: as many as there are in the volumes that the rays come to.
+    // where neither count of faults is the next one, all of it, unless memory was wanting. Daughters are tested and headers read
+    // for the reports alone: no more than any test of boxes lets pass that passes each box in which a ray has a point, and no
+    // less than the reports have paths to daughters, and to volumes with a header.
     ensures output { (text : List ℕ) × IsTold (S.left source.old) text
         × RunsTo (command_of (map string_bytes words.now)) text (K.written sink.old) (K.written sink.new)
         (HasFailed (S.faults source.old) (S.faults source.new) (K.faults sink.old) (K.faults sink.new)) result
-        × IsTested (command_of (map string_bytes words.now)) text tests.old tests.new result }
+        × IsCounted (command_of (map string_bytes words.now)) text (counters tests.old reads.old) (counters tests.new reads.new) result }
 
     // What is read: nothing, or everything up to one byte past the most of a text; at a fault or for want of memory, some of that.
     ensures read { IsRead (command_of (map string_bytes words.now)) (S.left source.old) (S.left source.new) result }
@@ -53,8 +54,6 @@ pub fn run<S: Source, K: Sink, T: Ledger, Q: Ledger>(
     // After a read that failed there is no other.
     ensures last { result ≡ ReadFault → (before : S) × (S.faults before ≡ S.faults source.old) × S.fails before source.new }
 
-    // So far there is nothing to be read of an index.
-    ensures reads { reads.new ≡ reads.old }
 {
     match command_from(alloc, words) {
         Some(command) => execute(alloc, command, source, sink, tests, reads),
@@ -73,11 +72,10 @@ fn execute<S: Source, K: Sink, T: Ledger, Q: Ledger>(
 ) -> Status
     ensures output { (text : List ℕ) × IsTold (S.left source.old) text
         × Ends (Some command) (IsOutput (Some command) text) (K.written sink.old) (K.written sink.new) result
-        × IsTested (Some command) text tests.old tests.new result }
+        × IsCounted (Some command) text (counters tests.old reads.old) (counters tests.new reads.new) result }
     ensures read { IsRead (Some command) (S.left source.old) (S.left source.new) result }
     ensures blames { Blames (S.faults source.old) (S.faults source.new) (K.faults sink.old) (K.faults sink.new) result }
     ensures last { result ≡ ReadFault → (before : S) × (S.faults before ≡ S.faults source.old) × S.fails before source.new }
-    ensures reads { reads.new ≡ reads.old }
 {
     match command {
         Command::Reading { verb, grid } => read(alloc, verb, &grid, source, sink, tests, reads),
@@ -97,11 +95,10 @@ fn read<S: Source, K: Sink, T: Ledger, Q: Ledger>(
 ) -> Status
     ensures output { (text : List ℕ) × IsTold (S.left source.old) text
         × Ends (Some (Reading verb grid.now)) (IsOutput (Some (Reading verb grid.now)) text) (K.written sink.old) (K.written sink.new) result
-        × IsTested (Some (Reading verb grid.now)) text tests.old tests.new result }
+        × IsCounted (Some (Reading verb grid.now)) text (counters tests.old reads.old) (counters tests.new reads.new) result }
     ensures read { IsRead (Some (Reading verb grid.now)) (S.left source.old) (S.left source.new) result }
     ensures blames { Blames (S.faults source.old) (S.faults source.new) (K.faults sink.old) (K.faults sink.new) result }
     ensures last { result ≡ ReadFault → (before : S) × (S.faults before ≡ S.faults source.old) × S.fails before source.new }
-    ensures reads { reads.new ≡ reads.old }
 {
     match read_input(alloc, grid, source) {
         Ok(read) => answer(alloc, verb, read, sink, tests, reads),
@@ -119,9 +116,8 @@ fn sample<K: Sink, T: Ledger, Q: Ledger>(
     reads: &mut Steps<Q>,
 ) -> Status
     ensures output { (text : List ℕ) → Ends (Some (Sample number)) (IsOutput (Some (Sample number)) text) (K.written sink.old) (K.written sink.new) result
-        × IsTested (Some (Sample number)) text tests.old tests.new result }
+        × IsCounted (Some (Sample number)) text (counters tests.old reads.old) (counters tests.new reads.new) result }
     ensures blames { (source : ℕ) → Blames source source (K.faults sink.old) (K.faults sink.new) result }
-    ensures reads { reads.new ≡ reads.old }
 {
     match sample_input(alloc, number) {
         Ok(read) => answer(

@@ -6,7 +6,7 @@ ghost use Rattle.g4exact.specs.declared.command.Telling.TheVariants.{Summary as 
 ghost use Rattle.g4exact.specs.Output.{AreRows, IsReported};
 ghost use Rattle.gx_sample_clean.specs.Sample.{instances_of_all};
 ghost use Rattle.g4exact.specs.Ends.{Answers, HasIoCause};
-ghost use Rattle.g4exact.specs.Tests.{AreTestCounts, RisesBy, status_of};
+ghost use Rattle.g4exact.specs.Counters.{AreEnough, AreFew, RiseBy, status_of, counters};
 
 use crate::outcome::Status;
 use gx_gather::Rays;
@@ -74,8 +74,8 @@ fn count_rows<L: Ledger, T: Ledger, Q: Ledger>(
     requires kept { IsSealed sealed.now }
     requires room { EachIndex sealed.now.volumes (λ v. length (instances sealed.now v) ≤ scratch.old) }
     ensures rows { (n : ℕ) × AreRows sealed.now rays.now n × (result ≡ min n (2 ^ 64 - 1)) }
-    ensures tests { (n : ℕ) × AreTestCounts sealed.now rays.now n × (tests.new ≡ tests.old + n) }
-    ensures reads { reads.new ≡ reads.old }
+    ensures few { AreFew sealed.now rays.now (counters tests.old reads.old) (counters tests.new reads.new) }
+    ensures enough { AreEnough sealed.now rays.now (counters tests.old reads.old) (counters tests.new reads.new) }
 {
     let mut rows: RowCount<L> = RowCount {
         count: 0,
@@ -111,8 +111,7 @@ pub fn write_summary<K: Sink, T: Ledger, Q: Ledger>(
 ) -> Result<Status, IoError>
     ensures output { Answers (Trace (Summed number)) (IsReported (Summed number) sealed.now rays.now) (K.written sink.old) (K.written sink.new) result }
     ensures cause { HasIoCause (K.faults sink.old) (K.faults sink.new) result }
-    ensures tests { RisesBy sealed.now rays.now tests.old tests.new (status_of result) }
-    ensures reads { reads.new ≡ reads.old }
+    ensures counts { RiseBy sealed.now rays.now (counters tests.old reads.old) (counters tests.new reads.new) (status_of result) }
 {
     let mut scratch = Scratch::new(alloc, sealed.most_daughters())?;
     let rows = count_rows::<Brand, T, Q>(sealed, rays, &mut scratch, Blank::new(1), tests, reads);

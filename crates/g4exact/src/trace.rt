@@ -11,7 +11,7 @@ ghost use Rattle.g4exact.specs.declared.command.Telling.{Telling};
 ghost use Rattle.g4exact.specs.declared.command.Telling.TheVariants.{Rows};
 ghost use Rattle.g4exact.specs.Output.{IsTrace, IsReported, IsRefuted, IsWritten};
 ghost use Rattle.g4exact.specs.Ends.{Answers, HasIoCause};
-ghost use Rattle.g4exact.specs.Tests.{Rises, RisesBy, AreTested, status_of};
+ghost use Rattle.g4exact.specs.Counters.{Rise, RiseBy, AreCounted, status_of, counters};
 
 use crate::command::Telling;
 use crate::outcome::Status;
@@ -67,8 +67,7 @@ fn trace_rays<K: Sink, T: Ledger, Q: Ledger>(
     requires room { EachIndex sealed.now.volumes (λ v. length (instances sealed.now v) ≤ scratch.old) }
     ensures bytes { (bytes : List ℕ) × IsTrace sealed.now 1 rays.now bytes × Writes (K.written lines.old.sink) (K.written lines.new.sink) bytes result }
     ensures cause { HasCause (K.faults lines.old.sink) (K.faults lines.new.sink) result }
-    ensures tests { Rises sealed.now rays.now tests.old tests.new result }
-    ensures reads { reads.new ≡ reads.old }
+    ensures counts { Rise sealed.now rays.now (counters tests.old reads.old) (counters tests.new reads.new) result }
 {
     for i in 0..rays.count() {
         let ray = rays.ray(i);
@@ -94,8 +93,7 @@ fn trace_lent<'a, K: Sink, L: Loan, T: Ledger, Q: Ledger>(
     ensures same_reference { result.1.ghost_name ≡ sink.entry.ghost_name }
     ensures bytes { (bytes : List ℕ) × IsTrace sealed.now 1 rays.now bytes × Writes (K.written sink.old) (K.written result.1.now) bytes result.0 }
     ensures cause { HasCause (K.faults sink.old) (K.faults result.1.now) result.0 }
-    ensures tests { Rises sealed.now rays.now tests.old tests.new result.0 }
-    ensures reads { reads.new ≡ reads.old }
+    ensures counts { Rise sealed.now rays.now (counters tests.old reads.old) (counters tests.new reads.new) result.0 }
 {
     let lent: Lent<'a, K, L> = Lent {
         sink,
@@ -124,8 +122,7 @@ fn print_reports<K: Sink, T: Ledger, Q: Ledger>(
     requires room { EachIndex sealed.now.volumes (λ v. length (instances sealed.now v) ≤ scratch.old) }
     ensures bytes { (bytes : List ℕ) × IsTrace sealed.now 1 rays.now bytes × Writes (K.written sink.old) (K.written sink.new) bytes result }
     ensures cause { HasCause (K.faults sink.old) (K.faults sink.new) result }
-    ensures tests { Rises sealed.now rays.now tests.old tests.new result }
-    ensures reads { reads.new ≡ reads.old }
+    ensures counts { Rise sealed.now rays.now (counters tests.old reads.old) (counters tests.new reads.new) result }
 {
     let (result, _sink) = trace_lent::<K, Brand, T, Q>(sealed, rays, scratch, sink, tests, reads);
     result
@@ -142,8 +139,7 @@ fn write_rows<K: Sink, T: Ledger, Q: Ledger>(
 ) -> Result<Status, IoError>
     ensures output { Answers (Trace Rows) (IsReported Rows sealed.now rays.now) (K.written sink.old) (K.written sink.new) result }
     ensures cause { HasIoCause (K.faults sink.old) (K.faults sink.new) result }
-    ensures tests { RisesBy sealed.now rays.now tests.old tests.new (status_of result) }
-    ensures reads { reads.new ≡ reads.old }
+    ensures counts { RiseBy sealed.now rays.now (counters tests.old reads.old) (counters tests.new reads.new) (status_of result) }
 {
     let mut scratch = Scratch::new(alloc, sealed.most_daughters())?;
     print_reports(sealed, rays, &mut scratch, sink, tests, reads)?;
@@ -162,8 +158,7 @@ fn write_reports<K: Sink, T: Ledger, Q: Ledger>(
 ) -> Result<Status, IoError>
     ensures output { Answers (Trace telling) (IsReported telling sealed.now rays.now) (K.written sink.old) (K.written sink.new) result }
     ensures cause { HasIoCause (K.faults sink.old) (K.faults sink.new) result }
-    ensures tests { RisesBy sealed.now rays.now tests.old tests.new (status_of result) }
-    ensures reads { reads.new ≡ reads.old }
+    ensures counts { RiseBy sealed.now rays.now (counters tests.old reads.old) (counters tests.new reads.new) (status_of result) }
 {
     match telling {
         Telling::Rows => write_rows(alloc, sealed, rays, sink, tests, reads),
@@ -197,8 +192,7 @@ pub fn write_trace<K: Sink, T: Ledger, Q: Ledger>(
 ) -> Result<Status, IoError>
     ensures output { Answers (Trace telling) (IsWritten (Trace telling) input) (K.written sink.old) (K.written sink.new) result }
     ensures cause { HasIoCause (K.faults sink.old) (K.faults sink.new) result }
-    ensures tests { AreTested (find refutes (verdicts input.tree)) input tests.old tests.new (status_of result) }
-    ensures reads { reads.new ≡ reads.old }
+    ensures counts { AreCounted (find refutes (verdicts input.tree)) input (counters tests.old reads.old) (counters tests.new reads.new) (status_of result) }
 {
     // A clean hierarchy has no verdict that refutes it.
     clean_where_unrefuted();

@@ -6,19 +6,19 @@ use Rattle.gx_io.specs.Bytes.{with_after, AppendsFront}
 use Rattle.gx_tree.specs.Hierarchy.{instances}
 use Rattle.gx_gather.specs.Rays.{IsTraceable}
 use Rattle.g4exact.proofs.Traces.{texts_in, places_in, lines_of_report, traced_none, head_stopped, rows_stopped, traced_more, traced_whole}
-use Rattle.g4exact.proofs.Tested.{tested_none, tested_more, tested_before, tested_within, tested_whole}
+use Rattle.g4exact.specs.Counters.{counters}
+use Rattle.g4exact.proofs.Counters.{none_so_far, more_so_far, few_before, few_within, enough_whole}
 use Rattle.g4exact.proofs.Paths.{leads_is_path}
 use Rattle.g4exact.proofs.trace.trace_rays.Goals as goal
 
 pub loop-i-init : goal.loop-i-init
 loop-i-init g c = record {
   traced = traced_none c.args.sealed.now c.args.rays.now _;
-  tested = tested_none c.args.sealed.now c.args.rays.now _;
+  counted = none_so_far c.args.sealed.now c.args.rays.now _;
   items = ap texts_in c.requires.same;
   takes = ap places_in c.requires.same;
   room = c.requires.room;
   faults = refl;
-  reads = refl;
 }
 
 pub trace_ray-requires-clause-takes : goal.trace_ray-requires-clause-takes
@@ -36,14 +36,13 @@ returns-in_err-print_ray-clause-bytes g c =
     let front = head_stopped h rays c.loop-i.i (g.K.Sink.written c.args.lines.now.sink) (g.K.Sink.written c.loop-i.lines.sink) (g.K.Sink.written c.print_ray.new.sink) c.loop-i.invariant.traced c.ray-ray.result c.ray-ray.ensures.ray c.requires.kept kept c.ray-ray.ensures.kept c.in_err-print_ray.ensures.bytes.front in
     rw p.1 (front.0, front.1, record { all = tt; front = front.2 })
 
-pub returns-in_err-print_ray-clause-tests : goal.returns-in_err-print_ray-clause-tests
-returns-in_err-print_ray-clause-tests g c =
+pub returns-in_err-print_ray-clause-counts : goal.returns-in_err-print_ray-clause-counts
+returns-in_err-print_ray-clause-counts g c =
     let h = c.args.sealed.now in
     let rays = c.args.rays.now in
     let kept = recursion_from_All IsTraceable rays c.count-i-end.ensures.kept in
     let p = err_from_is_err_and c.from_residual.result c.from_residual.ensures.1 in
-    let few = tested_before h rays c.loop-i.i c.args.tests.now c.loop-i.tests c.loop-i.tests c.loop-i.invariant.tested c.requires.kept.tree kept refl in
-    rw p.1 (few.0, few.1, few.2, tt)
+    rw p.1 (few_before h rays c.loop-i.i _ _ c.loop-i.invariant.counted c.requires.kept.tree kept, tt)
 
 pub returns-in_err-trace_ray-clause-bytes : goal.returns-in_err-trace_ray-clause-bytes
 returns-in_err-trace_ray-clause-bytes g c =
@@ -58,15 +57,16 @@ returns-in_err-trace_ray-clause-bytes g c =
     let front = rows_stopped h rays c.loop-i.i (g.K.Sink.written c.args.lines.now.sink) (g.K.Sink.written c.loop-i.lines.sink) new c.loop-i.invariant.traced c.ray-ray.result c.ray-ray.ensures.ray report.0 report.1 headed c.in_ok-print_ray.ensures.bytes.all c.requires.kept kept rows in
     rw p.1 (front.0, front.1, record { all = tt; front = front.2 })
 
-pub returns-in_err-trace_ray-clause-tests : goal.returns-in_err-trace_ray-clause-tests
-returns-in_err-trace_ray-clause-tests g c =
+pub returns-in_err-trace_ray-clause-counts : goal.returns-in_err-trace_ray-clause-counts
+returns-in_err-trace_ray-clause-counts g c =
     let h = c.args.sealed.now in
     let rays = c.args.rays.now in
     let kept = recursion_from_All IsTraceable rays c.count-i-end.ensures.kept in
     let p = err_from_is_err_and c.from_residual-in_err-trace_ray.result c.from_residual-in_err-trace_ray.ensures.1 in
-    let tests = c.in_err-trace_ray.ensures.tests in
-    let few = tested_within h rays c.loop-i.i c.args.tests.now c.loop-i.tests c.trace_ray.new.tests c.loop-i.invariant.tested c.ray-ray.result c.ray-ray.ensures.ray tests.0 tests.1 c.requires.kept.tree kept tests.2 in
-    rw p.1 (few.0, few.1, few.2, tt)
+    let old = counters c.args.tests.now c.args.reads.now in
+    let mid = counters c.loop-i.tests c.loop-i.reads in
+    let new = counters c.trace_ray.new.tests c.trace_ray.new.reads in
+    rw p.1 (few_within h rays c.loop-i.i c.ray-ray.result c.ray-ray.ensures.ray old mid new c.loop-i.invariant.counted c.in_err-trace_ray.ensures.few_tests c.in_err-trace_ray.ensures.few_reads c.requires.kept.tree kept, tt)
 
 pub loop-i-preserved : goal.loop-i-preserved
 loop-i-preserved g c =
@@ -79,12 +79,12 @@ loop-i-preserved g c =
     let lines = subst (λ l. new ≡ with_after headed l) (lines_of_report h (texts_in c.loop-i.lines.sealed.now) traced.report.0 inv.items) traced.report.2.all in
     record {
       traced = traced_more h rays c.loop-i.i (g.K.Sink.written c.args.lines.now.sink) (g.K.Sink.written c.loop-i.lines.sink) new inv.traced c.ray-ray.result c.ray-ray.ensures.ray traced.report.0 traced.report.1 headed c.in_ok-print_ray.ensures.bytes.all lines;
-      tested = tested_more h rays c.loop-i.i c.args.tests.now c.loop-i.tests c.trace_ray.new.tests inv.tested c.ray-ray.result c.ray-ray.ensures.ray traced.tests.0 traced.tests.1 traced.tests.3;
+      counted = more_so_far h rays c.loop-i.i c.ray-ray.result c.ray-ray.ensures.ray (counters c.args.tests.now c.args.reads.now) (counters c.loop-i.tests c.loop-i.reads) (counters c.trace_ray.new.tests c.trace_ray.new.reads) inv.counted
+          traced.few_tests traced.few_reads traced.some_tests traced.some_reads;
       items = traced.same_items ∙ inv.items;
       takes = traced.same_takes ∙ inv.takes;
       room = subst (λ s. EachIndex h.volumes (λ v. length (instances h v) ≤ s)) (sym traced.room) inv.room;
       faults = traced.cause.kept ∙ c.in_ok-print_ray.ensures.cause.kept ∙ inv.faults;
-      reads = traced.reads ∙ inv.reads;
     }
 
 pub returns-clause-bytes : goal.returns-clause-bytes
@@ -92,7 +92,10 @@ returns-clause-bytes g c =
     let whole = traced_whole c.args.sealed.now c.args.rays.now c.loop-i.i (g.K.Sink.written c.args.lines.now.sink) (g.K.Sink.written c.loop-i.lines.sink) c.loop-i.invariant.traced (omega arith) in
     (whole.0, whole.1, record { all = whole.2; front = tt })
 
-pub returns-clause-tests : goal.returns-clause-tests
-returns-clause-tests g c =
-    let whole = tested_whole c.args.sealed.now c.args.rays.now c.loop-i.i c.args.tests.now c.loop-i.tests c.loop-i.invariant.tested (omega arith) in
-    (whole.0, whole.1, omega (arith, whole.2), whole.2)
+pub returns-clause-counts : goal.returns-clause-counts
+returns-clause-counts g c =
+    let h = c.args.sealed.now in
+    let rays = c.args.rays.now in
+    let kept = recursion_from_All IsTraceable rays c.count-i-end.ensures.kept in
+    let counted = c.loop-i.invariant.counted in
+    (few_before h rays c.loop-i.i _ _ counted c.requires.kept.tree kept, enough_whole h rays c.loop-i.i _ _ counted (omega arith))

@@ -9,8 +9,7 @@ returns-in_err-print_reports-clause-output g c =
     let bytes = c.in_err-print_reports.ensures.bytes in
     rw (p.1, p.2) (bytes.0, Clean, (bytes.1, refl), bytes.2.front)
 
-pub returns-in_err-print_reports-clause-tests : goal.returns-in_err-print_reports-clause-tests
-returns-in_err-print_reports-clause-tests g c =
+pub returns-in_err-print_reports-clause-counts : goal.returns-in_err-print_reports-clause-counts
+returns-in_err-print_reports-clause-counts g c =
     let p = err_from_is_err_and c.from_residual-in_err-print_reports.result c.from_residual-in_err-print_reports.ensures.1 in
-    let tests = c.in_err-print_reports.ensures.tests in
-    rw (p.1, p.2) (tests.0, tests.1, tests.2)
+    rw (p.1, p.2) c.in_err-print_reports.ensures.counts.0
