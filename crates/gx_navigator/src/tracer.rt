@@ -79,13 +79,7 @@ impl Geometry for Tracer<'_> {
         }
     }
 
-    fn meet<T: Ledger>(
-        &self,
-        mother: &Frame,
-        _: Span,
-        ordinal: u32,
-        tests: &mut Steps<T>,
-    ) -> Option<Met> {
+    fn meet<T: Ledger>(&self, mother: &Frame, ordinal: u32, tests: &mut Steps<T>) -> Option<Met> {
         let volume = mother.volume;
         let span = self.sealed.clip(volume, ordinal, &mother.ray, tests)?;
         let frame = Frame {

@@ -2,6 +2,7 @@
 use Rattle.std.proofs.Common.{◌≡◌, ℕ, ◌+◌, ◌-◌, ◌<◌, ◌≤◌, List, [], ◌∷◌, ◌++◌, length, length-append, get_or, take, drop, map, Option, Result, IsErr, refl, sym, ap, ◌∙◌, subst, add-one, drop-cons, arith}
 use Rattle.std.specs.Prelude.{sum_by}
 use Rattle.std.proofs.Math.Seq.{take-append_seam}
+use Rattle.std.proofs.lemmas.List.{length-map}
 use Rattle.std.proofs.lemmas.List.Sums.{sum_by-cons}
 use Rattle.std.proofs.lemmas.Grind.{common_steps}
 use Rattle.gx_num.specs.Ray.{RayParameter}
@@ -98,7 +99,7 @@ module _ (hits : Frame → List (Hit Frame)) (k n : ℕ) (level : n + 1 ≡ k) (
   cost-all count from to = ap (λ l. count frame from to + sum_by (λ h. cost_of count hits n h.from h.to h.daughter) l) same ∙ ap (λ j. cost_of count hits j from to frame) (sym (add-one n) ∙ level)
 
   pub as-many : length mets ≡ length (hits frame)
-  as-many = sym (length-map hit_of mets) ∙ ap length same
+  as-many = sym (length-map mets hit_of) ∙ ap length same
 
 -- the cost of one hit more
 pub sum-next : (f : Hit Frame → ℕ) (mets : List Met) (i : ℕ) (m : Met) → m ≡ get_or mets i m → i < length mets

@@ -1,8 +1,8 @@
 -- The daughters met, sorted by entry, are the hits in the order of entry.
 use Rattle.std.proofs.Common.{◌≡◌, ℕ, zero, suc, ◌+◌, ◌*◌, ◌<◌, ◌≤◌, ◌⊎◌, inl, inr, refl, sym, ap, ◌∙◌, subst, arith, nat_eq, true, false, ℤ, pos, negsuc, List, [], ◌∷◌, ◌++◌, length, get_or, map, Option, None, Some}
 use Rattle.std.specs.Prelude.{sum_by, unsigned_abs, ◌<ℤ◌, ◌≤ℤ◌, ◌*ℤ◌}
-use Rattle.std.specs.List.{All, AllByRecursion}
-use Rattle.std.specs.List.Sorted.{IsDistinct, IsPermutation, IsSortedBy}
+use Rattle.std.specs.List.{All, AllByRecursion, IsDistinct}
+use Rattle.std.specs.List.Sorted.{IsPermutation, IsSortedBy}
 use Rattle.std.specs.Option.{option_map}
 use Rattle.std.specs.Ordering.{MatchOrdering, int_cmp, is_lt, nat_cmp, ordering_then}
 use Rattle.std.specs.declared.cmp.Ordering.{Ordering}
@@ -115,7 +115,7 @@ module _ (met : ℕ → Option Met) where
   met_none ks k mets e h = record {
     known = h.known;
     same = λ f.
-        let none : weight met f k ≡ 0 = ap (λ (o : Option Met). elim o [None ↦ 0 | Some m ↦ f (hit_of m)]) e in
+        let none : weight met f k ≡ 0 = ap (λ (o : Option Met). elim o [ None ↦ 0 | Some m ↦ f (hit_of m) ]) e in
         omega (arith, h.same f, weight-last f ks k, none);
   }
 
@@ -127,7 +127,7 @@ module _ (met : ℕ → Option Met) where
         let last : sum_by f (map hit_of (mets ++ m ∷ [])) ≡ sum_by f (map hit_of mets) + f (hit_of m) =
         ap (sum_by f) (map-append hit_of mets (m ∷ [])) ∙ sum_by-append f (map hit_of mets) (hit_of m ∷ [])
         ∙ omega (arith, sum_by-cons f (hit_of m) []) in
-        let some : weight met f k ≡ f (hit_of m) = ap (λ (o : Option Met). elim o [None ↦ 0 | Some m ↦ f (hit_of m)]) e in
+        let some : weight met f k ≡ f (hit_of m) = ap (λ (o : Option Met). elim o [ None ↦ 0 | Some m ↦ f (hit_of m) ]) e in
         omega (arith, last, h.same f, weight-last f ks k, some);
   }
 
@@ -137,14 +137,14 @@ module _ (met : ℕ → Option Met) where
   sum-sorted f zero = refl
   sum-sorted f (suc n) = by (met n) (sum-sorted f n)
     where
-      by : (o : Option Met) → sum_by f (sorted found n) ≡ sum_below (weight met f) n → sum_by f (insert_found (option_map hit_of o) (sorted found n)) ≡ elim o [None ↦ 0 | Some m ↦ f (hit_of m)] + sum_below (weight met f) n
+      by : (o : Option Met) → sum_by f (sorted found n) ≡ sum_below (weight met f) n → sum_by f (insert_found (option_map hit_of o) (sorted found n)) ≡ elim o [ None ↦ 0 | Some m ↦ f (hit_of m) ] + sum_below (weight met f) n
       by None e = omega (arith, e)
       by (Some m) e = omega (arith, sum-insert f (hit_of m) (sorted found n), e)
 
   is_met : (f : Hit Frame → ℕ) (k : ℕ) → 0 < weight met f k → (m : Met) × (met k ≡ Some m)
   is_met f k some = by (met k) refl some
     where
-      by : (o : Option Met) → met k ≡ o → 0 < elim o [None ↦ 0 | Some m ↦ f (hit_of m)] → (m : Met) × (met k ≡ Some m)
+      by : (o : Option Met) → met k ≡ o → 0 < elim o [ None ↦ 0 | Some m ↦ f (hit_of m) ] → (m : Met) × (met k ≡ Some m)
       by None e some = absurd (omega (arith, some))
       by (Some m) e some = (m, e)
 

@@ -1,13 +1,12 @@
 -- Different numbers below a bound, which have all that count for something, count together for as much as all numbers below it.
 use Rattle.std.proofs.Common.{◌≡◌, ℕ, zero, suc, ◌+◌, ◌<◌, ◌≤◌, ◌⊎◌, inl, inr, refl, sym, ap, ◌∙◌, arith, Bool, true, false, eqb-true, eq-eqb, List, [], ◌∷◌, nat_eq}
 use Rattle.std.specs.Prelude.{sum_by, if◌then◌else◌}
-use Rattle.std.specs.List.{AllByRecursion}
-use Rattle.std.specs.List.Sorted.{IsDistinct}
+use Rattle.std.specs.List.{AllByRecursion, IsDistinct}
 use Rattle.std.proofs.lemmas.List.Sums.{sum_by-cons}
 use Rattle.gx_offers.specs.Offers.{IsOneOf}
 
 -- the sum over all numbers below a bound
-pub sum_below : (ℕ → ℕ) → ℕ → ℕ
+unfoldable pub sum_below : (ℕ → ℕ) → ℕ → ℕ
 sum_below w zero = 0
 sum_below w (suc n) = w n + sum_below w n
 
@@ -65,6 +64,7 @@ nothing w (suc n) h =
     by (suc x) k = absurd (k (omega arith))
 
 pub sum-whole : (w : ℕ → ℕ) (n : ℕ) (ks : List ℕ) → IsDistinct nat_eq ks → AllByRecursion (λ k. k < n) ks → ((j : ℕ) → j < n → 0 < w j → IsOneOf j ks) → sum_by w ks ≡ sum_below w n
+unfolding IsDistinct
 sum-whole w n [] distinct below whole = sym (nothing w n whole)
 sum-whole w n (k ∷ ks) distinct below whole =
     let rest = sum-whole (cleared k w) n ks distinct.1 below.1 (λ j less some. still j (whole j less (kept j some)) some) in

@@ -14,7 +14,7 @@ is_earlier a b = is_lt (ordering_then (compare a.span.from b.span.from) (nat_cmp
 
 -- what a daughter counts for, where she is met
 abbrev pub weight : (ℕ → Option Met) → (Hit Frame → ℕ) → ℕ → ℕ
-weight met f k = elim (met k) [None ↦ 0 | Some m ↦ f (hit_of m)]
+weight met f k = elim (met k) [ None ↦ 0 | Some m ↦ f (hit_of m) ]
 
 -- these are the daughters met at some ordinals, in some order
 pub record AreMet (met : ℕ → Option Met) (ks : List ℕ) (mets : List Met) : Type 0 where

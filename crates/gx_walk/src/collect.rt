@@ -2,6 +2,7 @@ ghost use Rattle.std.specs.Prelude.{◌≡◌, ℕ, ◌<◌, ◌≤◌, ◌+◌,
 ghost use Rattle.std.specs.List.{All, AllByRecursion};
 ghost use Rattle.std.specs.List.Sorted.{IsPermutation, IsSortedBy};
 ghost use Rattle.gx_fraction.specs.Fraction.{parameter_of};
+ghost use Rattle.gx_clip.specs.declared.span.Span.{Span as Part};
 ghost use Rattle.gx_walk.specs.Hits.{Count, hit_of, hits_of};
 ghost use Rattle.gx_walk.specs.Entry.{AreMet, is_earlier};
 
@@ -36,7 +37,7 @@ pub fn collect<G: Geometry, T: Ledger, Q: Ledger>(
 {
     offers.clear();
     geometry.offer(mother, span, offers, reads);
-    meet_all(geometry, mother, span, offers.as_slice(), hits, tests);
+    meet_all(geometry, mother, offers.as_slice(), hits, tests);
     sort_by_entry(hits);
 }
 
@@ -44,12 +45,11 @@ pub fn collect<G: Geometry, T: Ledger, Q: Ledger>(
 fn meet_all<G: Geometry, T: Ledger>(
     geometry: &G,
     mother: &Frame,
-    span: Span,
     offered: &[u32],
     hits: &mut Vec<Met>,
     tests: &mut Steps<T>,
 )
-    requires known { (n : ℕ) × G.knows geometry.now n mother.now span }
+    requires known { (n : ℕ) × (span : Part) × G.knows geometry.now n mother.now span }
     requires below { AllByRecursion (λ k. k < G.count_of geometry.now mother.now.volume) offered.now }
     requires room { length offered.now ≤ vec_capacity hits.old }
     ensures met { AreMet (G.met_of geometry.now mother.now) offered.now hits.new.items }
@@ -59,7 +59,7 @@ fn meet_all<G: Geometry, T: Ledger>(
 {
     hits.clear();
     for k in offered {
-        if let Some(met) = geometry.meet(mother, span, *k, tests) {
+        if let Some(met) = geometry.meet(mother, *k, tests) {
             hits.push_reserved(met);
         }
     }

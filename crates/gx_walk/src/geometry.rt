@@ -53,14 +53,8 @@ pub trait Geometry {
         ensures some_reads { reads.old + least_reads self.now mother.now ≤ reads.new };
 
     /// Tests one daughter, which is one test more.
-    fn meet<T: Ledger>(
-        &self,
-        mother: &Frame,
-        span: Span,
-        ordinal: u32,
-        tests: &mut Steps<T>,
-    ) -> Option<Met>
-        requires known { (n : ℕ) × knows self.now n mother.now span }
+    fn meet<T: Ledger>(&self, mother: &Frame, ordinal: u32, tests: &mut Steps<T>) -> Option<Met>
+        requires known { (n : ℕ) × (span : Part) × knows self.now n mother.now span }
         requires ordinal { ordinal < count_of self.now mother.now.volume }
         ensures met { result ≡ met_of self.now mother.now ordinal }
         ensures tests { tests.new ≡ tests.old + 1 };

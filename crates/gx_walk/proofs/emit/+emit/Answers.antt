@@ -148,7 +148,7 @@ emit-requires g t c κs lives =
     let room = subst (HaveRoom count) (sym inv.room) (subst (λ (levels : List (Vec Met Global)). HaveRoom count (map vec_capacity levels)) c.in-Some.ensures.cases.0 c.requires.room).1 in
     let longer : length c.push.new.self ≡ length path + 1 = ap length (c.push.ensures ∙ ap (λ p. p ++ met.ordinal ∷ []) inv.path) ∙ length-append path (met.ordinal ∷ []) in
     let short : length c.push.new.self + length c.loop-met.deeper ≤ max_length = omega (arith, longer, c.loop-met.auto.deeper, c.in-Some.ensures.cases.1, c.requires.path) in
-    (search rules, (lives.0, (lives.1.0, (lives.1.1.0, (lives.1.1.1, (knows, (offers, (room, (short, takes)))))))))
+    (search rules, (lives.0, (lives.1.0, (lives.1.1.0, (lives.1.1.1.0, (lives.1.1.1.1, (knows, (offers, (room, (short, takes))))))))))
 
 pub returns-clause-rows : goal.returns-clause-rows
 returns-clause-rows g t c =
