@@ -95,8 +95,8 @@ module _ (h : Hierarchy) (rays : List Ray) where
         go : {n : ℕ} → (rest : ℕ) × ArePaths h Is (drop i rays) rest × (old + n ≤ mid + rest) → (rest : ℕ) × ArePaths h Is (drop (i + 1) rays) rest × (old + n ≤ new + rest)
         go (all, are, most) =
             let split = subst (λ l. ArePaths h Is l all) (drop_get rays i ray at) are in
-            let one = enough split.0 split.1.1.0 split.1.0 split.1.1.1.0 in
-            (split.1.1.0, split.1.1.1.1.0, omega (arith, most, one, split.1.1.1.1.1))
+            let one = enough split.0 split.3 split.1 split.4 in
+            (split.2, split.5, omega (arith, most, one, split.6))
 
     module _ (old mid new : Counters) (so_far : SoFar h rays i old mid) (tests : RayAtMost h (tests_in h) ray mid.tests new.tests) (reads : RayAtMost h (reads_in h) ray mid.reads new.reads) where
       tests_more : (passes : BoxTest) → IsBoxTest passes → CostsSoFar h (tests_in h passes) rays (i + 1) old.tests new.tests

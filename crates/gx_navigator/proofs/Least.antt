@@ -328,7 +328,7 @@ module _ (h : Hierarchy) (tree : IsTree h) (clean : IsClean h) (ray : Ray) (move
     LeadsToHeader f path = (w : ℕ) × Leads (daughter_of h) f.volume path w × HasHeader h w
 
     header_here : (f : Frame) → LeadsToHeader f [] → has_header f ≡ true
-    header_here f (w, leads, cut, is) = ap (λ (u : ℕ). is_some (cut_by h u (volume_at h.volumes u).placements)) leads ∙ ap is_some is
+    header_here f (w, leads, header) = ap (λ (u : ℕ). is_some (cut_by h u (volume_at h.volumes u).placements)) leads ∙ ap is_some header.1
 
     header_there : (f : Frame) → AllByRecursion (λ (hit : Hit Frame). (path : List ℕ) → LeadsToHeader f (hit.ordinal ∷ path) → LeadsToHeader hit.daughter path) (hits h f)
     header_there f = by (hits h f) (linked h f)
@@ -338,9 +338,9 @@ module _ (h : Hierarchy) (tree : IsTree h) (clean : IsClean h) (ray : Ray) (move
         by [] all = tt
         by (hit ∷ hs) all = (
           (λ path leads.
-          let u = leads.1.0 in
+          let u = leads.1 in
           let one : u.0 ≡ hit.daughter.volume = let e : Some u.0 ≡ Some hit.daughter.volume = sym u.1 ∙ all.0 in cc in
-          (leads.0, subst (λ (x : ℕ). Leads (daughter_of h) x path leads.0) one u.2, leads.1.1)),
+          (leads.0, subst (λ (x : ℕ). Leads (daughter_of h) x path leads.0) one u.2, leads.2)),
           by hs all.1,
         )
 

@@ -46,7 +46,7 @@ distinct-front (j ∷ ks) k d =
 pub offers-push : (ks : List ℕ) (k n : ℕ) → AreOffers (record { numbers = ks; room = n }) → k < n → list_any (nat_eq k) ks ≡ false → AreOffers (record { numbers = ks ++ k ∷ []; room = n })
 offers-push ks k n o less new = record { distinct = IsDistinct-push nat_eq_equiv ks k o.distinct new; below = all-push (λ j. j < n) ks k o.below less }
 
-offers-few : (ks : List ℕ) (n : ℕ) → AreOffers (record { numbers = ks; room = n }) → length ks ≤ n
+pub offers-few : (ks : List ℕ) (n : ℕ) → AreOffers (record { numbers = ks; room = n }) → length ks ≤ n
 offers-few ks n o = length-le_from_distinct_below ks n o.distinct (λ k e. all-one (λ j. j < n) ks k o.below (is-one k ks e))
 
 module _ (ks : List ℕ) (ms : List Bool) (capacity k : ℕ) where

@@ -1,4 +1,6 @@
-ghost use Rattle.std.specs.Prelude.{◌≡◌, ◌<◌, ◌==◌, ◌&&◌, ℕ, Some, find};
+ghost use Rattle.std.specs.Prelude.{◌≡◌, ◌<◌, ◌≤◌, ◌==◌, ◌&&◌, ℕ, Some, find};
+ghost use Rattle.gx_num.specs.Ray.{RayParameter};
+ghost use Rattle.gx_walk.specs.declared.met.Frame.{Frame as At};
 ghost use Rattle.std.specs.Option.{option_map};
 ghost use Rattle.gx_walk.specs.Small.{meets};
 
@@ -7,6 +9,7 @@ use gx_clip::Span;
 use gx_fraction::Frac;
 use gx_io::Failed;
 use gx_num::{Ray, V3};
+use gx_offers::Offers;
 use gx_path::MemRows;
 use gx_steps::Steps;
 use std::alloc::Global;
@@ -36,14 +39,20 @@ impl Geometry for Small {
 
     ghost daughter_of = { λ g v k. option_map (λ d. d.volume) (find (λ d. d.mother == v && d.ordinal == k) g.daughters.items) };
 
-    ghost knows = { λ _ _ _. Unit {0} };
+    ghost knows = { λ _ _ _ _. Unit {0} };
 
-    ghost knows_met = { λ _ _ _ _ _ _ _. tt };
+    ghost bounds = { λ _ tests _. (frame : At) (from to : RayParameter) → 3 ≤ tests frame from to };
+
+    ghost least_reads = { λ _ _. 0 };
+
+    ghost knows_met = { λ _ _ _ _ _ _ _ _. tt };
 
     ghost meets = { λ g mother k met e. meets (find (λ d. d.mother == mother.volume && d.ordinal == k) g.daughters.items) (λ d. d.volume) (λ d. d.span) mother.ray k met e };
 
-    fn count(&self, _: &Frame) -> u32 {
-        3
+    fn offer<Q: Ledger>(&self, _: &Frame, _: Span, offers: &mut Offers, _: &mut Steps<Q>) {
+        offers.offer(0);
+        offers.offer(1);
+        offers.offer(2);
     }
 
     fn meet<T: Ledger>(&self, mother: &Frame, ordinal: u32, tests: &mut Steps<T>) -> Option<Met> {
@@ -94,17 +103,22 @@ fn geometry_of(alloc: Global, listed: &[Listed]) -> Result<Small, Fail> {
 }
 
 // The rows of a ray that is in the world from 10 to 50, and the answer.
-fn walked<L: Ledger>(
-    blank: Blank,
+fn walked<T: Ledger, Q: Ledger>(
+    tests: Blank,
+    reads: Blank,
     alloc: Global,
     geometry: &Small,
     fails: Vec<u32>,
 ) -> Result<(Result<(), Failed>, String), Fail>
-    requires name { blank.name ≡ L.name }
-    requires parts { blank.parts ≡ L.parts }
-    requires some { 0 < L.parts }
+    requires tests_name { tests.name ≡ T.name }
+    requires tests_parts { tests.parts ≡ T.parts }
+    requires tests_some { 0 < T.parts }
+    requires reads_name { reads.name ≡ Q.name }
+    requires reads_parts { reads.parts ≡ Q.parts }
+    requires reads_some { 0 < Q.parts }
 {
-    let mut tests: Steps<L> = Steps::new(blank);
+    let mut tests: Steps<T> = Steps::new(tests);
+    let mut reads: Steps<Q> = Steps::new(reads);
     let mut scratch = Scratch::new(alloc, 3)?;
     let mut rows = MemRows::new(alloc, 9, fails)?;
     let o = V3 { x: 0, y: 0, z: 0 };
@@ -119,6 +133,7 @@ fn walked<L: Ledger>(
         &mut scratch,
         &mut rows,
         &mut tests,
+        &mut reads,
     );
     Ok((answer, text(alloc, &rows)?))
 }
@@ -165,7 +180,13 @@ fn rows_come_in_the_order_of_entry_down_to_the_deepest_volume(rt: HostRuntime) -
     ];
     for (listed, rows) in cases {
         let geometry = geometry_of(alloc, listed)?;
-        let (answer, text) = walked::<Brand>(Blank::new(1), alloc, &geometry, Vec::new(alloc))?;
+        let (answer, text) = walked::<Brand, Brand>(
+            Blank::new(1),
+            Blank::new(1),
+            alloc,
+            &geometry,
+            Vec::new(alloc),
+        )?;
         assert_eq!(rt; answer, Ok(()));
         assert_eq!(rt; text.as_str(), rows);
     }
@@ -183,7 +204,8 @@ fn a_row_that_isnt_taken_ends_the_walk(rt: HostRuntime) -> Result<(), Fail> {
         (5, "10 20 [ ]; 20 22 [ 0 ]; 22 25 [ 0 0 ]; 25 30 [ 0 ]; "),
     ];
     for (fails, rows) in cases {
-        let (answer, text) = walked::<Brand>(
+        let (answer, text) = walked::<Brand, Brand>(
+            Blank::new(1),
             Blank::new(1),
             alloc,
             &geometry,

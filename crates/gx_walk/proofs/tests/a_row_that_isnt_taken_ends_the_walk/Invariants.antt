@@ -1,4 +1,7 @@
 use Rattle.gx_walk.proofs.tests.a_row_that_isnt_taken_ends_the_walk.Given as goal
 
-abbrev pub ghosts-walked : goal.ghosts-walked
-ghosts-walked g a = record { name = a.blank.name; parts = a.blank.parts }
+abbrev pub ghosts-walked-T-Ledger : goal.ghosts-walked-T-Ledger
+ghosts-walked-T-Ledger g a = record { name = a.tests.name; parts = a.tests.parts }
+
+abbrev pub ghosts-walked-Q-Ledger : goal.ghosts-walked-Q-Ledger
+ghosts-walked-Q-Ledger g a = record { name = a.reads.name; parts = a.reads.parts }
