@@ -1,4 +1,5 @@
 pub mod Along
+pub mod Bounds
 pub mod Digits
 pub mod Laws
 pub mod Line

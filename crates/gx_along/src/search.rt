@@ -53,7 +53,7 @@ fn is_run_before(line: Line, run: Bounds, at: Time) -> bool
     if line.d < 0 { !left } else { left }
 }
 
-/// How many runs stand before the one in which the ray goes on after a time, by halving.
+/// How many runs stand before the one in which the ray goes on after a time, by halving; a run is read at least, where there is one.
 pub fn first_left<L: Ledger>(header: &Header, line: Line, at: Time, reads: &mut Steps<L>) -> u32
     requires o { unsigned_abs line.o ≤ 2 ^ 31 }
     requires rising { IsRising header.now }
@@ -61,6 +61,7 @@ pub fn first_left<L: Ledger>(header: &Header, line: Line, at: Time, reads: &mut 
     ensures before { (i : ℕ) → i < result → is_before line.o line.d header.now (time at) i ≡ true }
     ensures after { (i : ℕ) → result ≤ i → i < length (list_of header.now) → is_before line.o line.d header.now (time at) i ≡ false }
     ensures reads { reads.new ≤ reads.old + digits (length (list_of header.now)) }
+    ensures some { 0 < length (list_of header.now) → reads.old < reads.new }
 {
     let mut low = 0;
     let mut high = header.run_count();

@@ -19,6 +19,8 @@ loop-low-preserved-then-is_before g c =
       before = up c.args.line.o c.args.line.d c.args.header.now (time c.args.at) c.requires.rising m (omega (arith, less, v.within)) (sym c.is_before.ensures.value ∙ c.if-is_before.true);
       after = v.after;
       reads = omega (arith, rest, v.reads, c.is_before.ensures.reads);
+      more = omega (arith, v.more, c.is_before.ensures.reads);
+      some = λ _. omega (arith, v.more, c.is_before.ensures.reads);
     }
 
 pub loop-low-preserved : goal.loop-low-preserved
@@ -35,4 +37,6 @@ loop-low-preserved g c =
       before = v.before;
       after = down c.args.line.o c.args.line.d c.args.header.now (time c.args.at) c.requires.rising m (sym c.is_before.ensures.value ∙ c.if-is_before.false);
       reads = omega (arith, rest, v.reads, c.is_before.ensures.reads);
+      more = omega (arith, v.more, c.is_before.ensures.reads);
+      some = λ _. omega (arith, v.more, c.is_before.ensures.reads);
     }

@@ -12,6 +12,8 @@ invariant-loop-low g l = record {
   before : (i : ℕ) → i < l.low → is_before l.line.o l.line.d l.header (time l.at) i ≡ true;
   after : (i : ℕ) → l.high ≤ i → i < length (list_of l.header) → is_before l.line.o l.line.d l.header (time l.at) i ≡ false;
   reads : l.reads + digits (l.high - l.low) ≤ l.fn.reads + digits (length (list_of l.header));
+  more : l.fn.reads ≤ l.reads;
+  some : l.high - l.low < length (list_of l.header) → l.fn.reads < l.reads;
 }
 
 abbrev pub decreases-loop-low : goal.decreases-loop-low
