@@ -38,7 +38,9 @@ use Rattle.gx_tree.specs.Fault.{IsTree}
 use Rattle.gx_check.specs.Verdicts.{placed_vertices}
 use Rattle.gx_frame.specs.Frames.{IsMet}
 use Rattle.gx_frame.proofs.Frames.{points_stay}
+use Rattle.gx_voxel.specs.Members.{IsProper}
 use Rattle.gx_sealed.specs.Slabs.{IsInBox}
+use Rattle.gx_sealed.proofs.Proper.{apart_x, apart_y, apart_z}
 
 -- ---- vertices by themselves
 own_hull : (vertices : List V3) → are_coplanar vertices ≡ false → IsHullOf (faces_of vertices) vertices
@@ -48,11 +50,13 @@ module _ (k : ℕ) (below : k < 24) (t : V3) (vertices : List V3) (solid : are_c
   abbrev point : V3 → V3
   point = placed_point (matrix_of k) t
 
+  placed_apart : are_coplanar (map point vertices) ≡ false
+  placed_apart = are_coplanar-map point (placed_face (matrix_of k) t) (IsMotion-placed (matrix_of k) (IsTurn-matrix_of k below) t) vertices ∙ solid
+
   inside_box : (p : Vec4) → pos 0 <ℤ p.w → is_inside (faces_of vertices) (local_point (matrix_of k) t p) ≡ true → IsInBox (extent_of (map point vertices)) p
   inside_box p positive inside =
-      let apart = are_coplanar-map point (placed_face (matrix_of k) t) (IsMotion-placed (matrix_of k) (IsTurn-matrix_of k below) t) vertices ∙ solid in
       let placed = placed_solids k below t (faces_of vertices) vertices solid (own_hull vertices solid) in
-      let within = (faces_are_the_solid (faces_of (map point vertices)) (map point vertices) apart (own_hull (map point vertices) apart)).extent p positive (placed.same_inside p positive ∙ inside) in
+      let within = (faces_are_the_solid (faces_of (map point vertices)) (map point vertices) placed_apart (own_hull (map point vertices) placed_apart)).extent p positive (placed.same_inside p positive ∙ inside) in
       record { x = within.x; y = within.y; z = within.z }
 
   near_points : IsWithin (unsigned_abs M) t → All (IsWithin (unsigned_abs M)) vertices → All (IsWithin reach) (map point vertices)
@@ -61,9 +65,10 @@ module _ (k : ℕ) (below : k < 24) (t : V3) (vertices : List V3) (solid : are_c
       (All-weaker (IsWithin (unsigned_abs M)) (λ v. IsWithin reach (point v)) (λ v h. IsWithin-sum_of (unsigned_abs M) t (image (transpose (matrix_of k)) v) offset (IsWithin-image_back k below (unsigned_abs M) v h)) vertices near)
 
 -- ---- extents
-IsWithin-fold : (r : ℕ) (f : V3 → V3 → V3) → ((a b : V3) → IsWithin r a → IsWithin r b → IsWithin r (f a b)) → (p : V3) (ps : List V3) → IsWithin r p → All (IsWithin r) ps → IsWithin r (fold f p ps)
-IsWithin-fold r f keeps p [] h all = h
-IsWithin-fold r f keeps p (q ∷ ps) h all = IsWithin-fold r f keeps (f p q) ps (keeps p q h (All-head (IsWithin r) q ps all)) (All-tail (IsWithin r) q ps all)
+-- a fold of elements has what each two pass on
+pub fold_keeps : {X : Type 0} (P : X → Type 0) (f : X → X → X) → ((a b : X) → P a → P b → P (f a b)) → (x : X) (xs : List X) → P x → All P xs → P (fold f x xs)
+fold_keeps P f keeps x [] h all = h
+fold_keeps P f keeps x (y ∷ xs) h all = fold_keeps P f keeps (f x y) xs (keeps x y h (All-head P y xs all)) (All-tail P y xs all)
 
 near_min : (r : ℕ) (x y : ℤ) → unsigned_abs x ≤ r → unsigned_abs y ≤ r → unsigned_abs (int_min x y) ≤ r
 near_min r x y h k = omega (arith, ints, int_min_is x y)
@@ -82,7 +87,7 @@ IsWithin-extent_of r [] all = (record { x = omega arith; y = omega arith; z = om
 IsWithin-extent_of r (p ∷ ps) all =
     let first = All-head (IsWithin r) p ps all in
     let others = All-tail (IsWithin r) p ps all in
-    (IsWithin-fold r lower (IsWithin-lower r) p ps first others, IsWithin-fold r upper (IsWithin-upper r) p ps first others)
+    (fold_keeps (IsWithin r) lower (IsWithin-lower r) p ps first others, fold_keeps (IsWithin r) upper (IsWithin-upper r) p ps first others)
 
 -- ---- a daughter
 module _ (h : Hierarchy) (tree : IsTree h) (i : Instance) (is : IsInstance h i) where
@@ -99,7 +104,19 @@ module _ (h : Hierarchy) (tree : IsTree h) (i : Instance) (is : IsInstance h i) 
       IsWithin-extent_of reach (placed_vertices h i)
       (subst (λ (m : Matrix). All (IsWithin reach) (map (placed_point m i.offset) vertices)) (sym is.rotation.same) (near_points is.rotation.index is.rotation.below i.offset vertices (whole_hull figure solid).0 is.offset near))
 
-  in_extent : (p : Vec4) → pos 0 <ℤ p.w → is_inside (solid_of figure) (local_of i p) ≡ true → IsInBox (extent_of (placed_vertices h i)) p
+  pub proper : IsProper (extent_of (placed_vertices h i))
+  proper =
+      let vertices = distinct (vertices_of figure) in
+      let solid_placed : are_coplanar (placed_vertices h i) ≡ false = subst (λ (m : Matrix). are_coplanar (map (placed_point m i.offset) vertices) ≡ false) (sym is.rotation.same) (placed_apart is.rotation.index is.rotation.below i.offset vertices (whole_hull figure solid).0) in
+      record {
+        low = near_extent.0;
+        high = near_extent.1;
+        x = apart_x (placed_vertices h i) solid_placed;
+        y = apart_y (placed_vertices h i) solid_placed;
+        z = apart_z (placed_vertices h i) solid_placed;
+      }
+
+  pub in_extent : (p : Vec4) → pos 0 <ℤ p.w → is_inside (solid_of figure) (local_of i p) ≡ true → IsInBox (extent_of (placed_vertices h i)) p
   in_extent p positive inside =
       let vertices = distinct (vertices_of figure) in
       subst (λ (m : Matrix). is_inside (faces_of vertices) (local_point m i.offset p) ≡ true → IsInBox (extent_of (map (placed_point m i.offset) vertices)) p) (sym is.rotation.same)

@@ -1,5 +1,8 @@
-pub mod Most
 pub mod Boxes
+pub mod Copies
+pub mod Extents
+pub mod Most
+pub mod Proper
 pub mod Slabs
 pub mod Solids
 pub mod Tables

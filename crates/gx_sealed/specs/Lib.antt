@@ -1,3 +1,4 @@
+pub mod Cells
 pub mod Placed
 pub mod Sealed
 pub mod Slabs

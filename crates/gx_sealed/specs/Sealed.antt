@@ -27,6 +27,6 @@ pub record IsMostDaughters (h : Hierarchy) (n : ℕ) : Type 0 where
 
 -- a ray that has a direction, and numbers that leave room for 32 frames and their products
 pub record IsTraceable (ray : Ray) : Type 0 where
-  pub origin : IsWithin (2 ^ 60) ray.o
-  pub direction : IsWithin (2 ^ 60) ray.d
+  pub origin : IsWithin (2 ^ 31) ray.o
+  pub direction : IsWithin (2 ^ 31) ray.d
   pub moves : HasDirection ray

@@ -1,6 +1,7 @@
 //! A clean hierarchy, sealed for tracing: where a ray is inside its world and inside each daughter.
 #![tactic(auto)]
 
+mod cells;
 mod enter;
 mod error;
 mod misses;
@@ -11,5 +12,6 @@ mod solid;
 #[cfg(test)]
 mod tests;
 
+pub use cells::Cells;
 pub use error::SealError;
 pub use sealed::{Sealed, Step};

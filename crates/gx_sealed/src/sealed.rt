@@ -7,14 +7,16 @@ ghost use Rattle.gx_clip.specs.Clip.{IsClip};
 ghost use Rattle.gx_shapes.specs.Solid.{solid_of};
 ghost use Rattle.gx_tree.specs.Hierarchy.{volume_at, instances};
 ghost use Rattle.gx_frame.specs.Frames.{local_ray as local_ray_of, IsMet};
+ghost use Rattle.gx_sealed.specs.Cells.{IsCells};
 ghost use Rattle.gx_sealed.specs.Placed.{IsDaughter};
 ghost use Rattle.gx_sealed.specs.Sealed.{IsSealed, IsSealCause, IsMostDaughters, IsTraceable};
 
-use crate::SealError;
+use crate::cells::all_cells;
 use crate::enter::local_ray;
 use crate::misses::misses;
 use crate::placed::{Daughter, all_daughters};
 use crate::solid::span_in;
+use crate::{Cells, SealError};
 use gx_check::first_refuted;
 use gx_clip::Span;
 use gx_num::Ray;
@@ -31,6 +33,7 @@ pub struct Sealed {
     tree: Hierarchy,
     // Those of each volume, for one look at a daughter.
     daughters: Vec<Vec<Daughter>>,
+    cells: Vec<Cells>,
 }
 
 /// A step down into a daughter: her volume and her copy number.
@@ -45,12 +48,13 @@ impl Model for Sealed {
     ghost use Rattle.gx_tree.specs.Hierarchy.{Hierarchy};
     ghost use Rattle.gx_sealed.specs.Sealed.{IsSealed};
     ghost use Rattle.gx_sealed.specs.Placed.{all_daughters};
+    ghost use Rattle.gx_sealed.specs.Cells.{AreCells};
 
     ghost Value = { Hierarchy };
 
     ghost view = { λ s. s.tree };
 
-    ghost invariant = { λ s. IsSealed s.tree × (map (λ d. d.items) s.daughters.items ≡ all_daughters s.tree) };
+    ghost invariant = { λ s. IsSealed s.tree × (map (λ d. d.items) s.daughters.items ≡ all_daughters s.tree) × AreCells s.tree s.cells.items };
 }
 
 impl Sealed {
@@ -67,7 +71,12 @@ impl Sealed {
         // What each hierarchy keeps is known from here on.
         let _ = tree.world();
         let daughters = all_daughters(alloc, &tree)?;
-        Ok(Sealed { tree, daughters })
+        let cells = all_cells(alloc, &tree, &daughters)?;
+        Ok(Sealed {
+            tree,
+            daughters,
+            cells,
+        })
     }
 
     /// The number of the world.
@@ -177,6 +186,15 @@ impl Sealed {
         ensures kept { IsSealed self.now }
     {
         local_ray(&self.daughter(mother, k).instance, ray)
+    }
+
+    /// What the space of a mother is cut into.
+    pub fn cells(&self, mother: u32) -> &Cells
+        requires { mother < length self.now.volumes }
+        ensures cells { IsCells self.now mother result.now }
+        ensures kept { IsSealed self.now }
+    {
+        &self.cells[mother as usize]
     }
 
     fn daughter(&self, mother: u32, k: u32) -> &Daughter

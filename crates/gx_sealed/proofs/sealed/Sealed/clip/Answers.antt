@@ -37,7 +37,7 @@ returns-then-misses-clause-met g c = λ i at.
     subst (λ (j : Instance). IsMet h j c.args.ray.now None) (same_Some own i (sym daughter.at ∙ at)) (not_met h c.daughter.ensures.kept.tree own daughter.instance c.args.ray.now none)
 
 pub span_in-requires-clause-origin : goal.span_in-requires-clause-origin
-span_in-requires-clause-origin g c = IsWithin-larger (2 ^ 60 + unsigned_abs M) (2 ^ 61) c.local_ray.result.o (omega arith) (c.local_ray.ensures.origin (2 ^ 60) c.requires.ray.origin)
+span_in-requires-clause-origin g c = IsWithin-larger (2 ^ 31 + unsigned_abs M) (2 ^ 61) c.local_ray.result.o (omega arith) (c.local_ray.ensures.origin (2 ^ 31) c.requires.ray.origin)
 
 pub span_in-requires-clause-direction : goal.span_in-requires-clause-direction
-span_in-requires-clause-direction g c = IsWithin-larger (2 ^ 60) (2 ^ 61) c.local_ray.result.d (omega arith) (c.local_ray.ensures.direction (2 ^ 60) c.requires.ray.direction)
+span_in-requires-clause-direction g c = IsWithin-larger (2 ^ 31) (2 ^ 61) c.local_ray.result.d (omega arith) (c.local_ray.ensures.direction (2 ^ 31) c.requires.ray.direction)
