@@ -84,12 +84,12 @@ module _ (h : Hierarchy) (tree : IsTree h) where
 
     module _ (found : Frame → ℕ → Option (Hit Frame)) (is_found : IsFound h found) where
       -- a daughter that is met at an ordinal
-      record IsHit (d : Frame) (k : ℕ) (hit : Hit Frame) : Type 0 where
-        instance : Instance
-        at : slice_get (instances h d.volume) k ≡ Some instance
-        ordinal : hit.ordinal ≡ k
-        daughter : hit.daughter ≡ record { volume = instance.volume; ray = local_ray instance d.ray }
-        span : IsInsideBetween (solid_at h instance.volume) (local_ray instance d.ray) hit.from hit.to
+      pub record IsHit (d : Frame) (k : ℕ) (hit : Hit Frame) : Type 0 where
+        pub instance : Instance
+        pub at : slice_get (instances h d.volume) k ≡ Some instance
+        pub ordinal : hit.ordinal ≡ k
+        pub daughter : hit.daughter ≡ record { volume = instance.volume; ray = local_ray instance d.ray }
+        pub span : IsInsideBetween (solid_at h instance.volume) (local_ray instance d.ray) hit.from hit.to
 
       hit_with : (d : Frame) (k : ℕ) (i : Instance) (hit : Hit Frame) (o : Option Span) → slice_get (instances h d.volume) k ≡ Some i → IsClip (solid_at h i.volume) (local_ray i d.ray) o → hit_of k i d.ray o ≡ Some hit → IsHit d k hit
       hit_with d k i hit None at clip e = absurd (cc)
@@ -98,14 +98,14 @@ module _ (h : Hierarchy) (tree : IsTree h) where
           let same : made ≡ hit = cc in
           subst (IsHit d k) same (record { instance = i; at = at; ordinal = refl; daughter = refl; span = clip })
 
-      hit_at : (d : Frame) → HasDirection d.ray → (k : ℕ) (hit : Hit Frame) → k < length (instances h d.volume) → found d k ≡ Some hit → IsHit d k hit
+      pub hit_at : (d : Frame) → HasDirection d.ray → (k : ℕ) (hit : Hit Frame) → k < length (instances h d.volume) → found d k ≡ Some hit → IsHit d k hit
       hit_at d moves k hit below e = elim (slice_get_cases (instances h d.volume) k).1 [
         | inl (i, less, at, same) ↦ let f = is_found d moves k i at in hit_with d k i hit f.0 at f.1 (sym f.2 ∙ e)
         | inr (past, at) ↦ absurd (omega (arith, below, past))
       ]
 
       -- inside a hit is inside the daughter
-      inside-daughter : (d : Frame) (k : ℕ) (hit : Hit Frame) (m : IsHit d k hit) (t : RayParameter) → IsPositive t → IsInside hit t → is_inside_daughter h (point_of_ray d.ray t) m.instance ≡ true
+      pub inside-daughter : (d : Frame) (k : ℕ) (hit : Hit Frame) (m : IsHit d k hit) (t : RayParameter) → IsPositive t → IsInside hit t → is_inside_daughter h (point_of_ray d.ray t) m.instance ≡ true
       inside-daughter d k hit m t positive inside = inside_daughter-along m.instance d.ray t ∙ (m.span.inside t positive).1 inside
 
       -- a daughter inside which the ray is at a parameter was met
@@ -115,7 +115,7 @@ module _ (h : Hierarchy) (tree : IsTree h) where
       met_with d k i (Some span) clip e t positive inside =
           (record { ordinal = k; from = parameter_of span.from; to = parameter_of span.to; daughter = record { volume = i.volume; ray = local_ray i d.ray } }, e, (clip.inside t positive).0 inside)
 
-      part : (from to : RayParameter) (d : Frame) → IsWithin from to d → (k : ℕ) (hit : Hit Frame) → k < length (instances h d.volume) → found d k ≡ Some hit → IsPart from to hit
+      pub part : (from to : RayParameter) (d : Frame) → IsWithin from to d → (k : ℕ) (hit : Hit Frame) → k < length (instances h d.volume) → found d k ≡ Some hit → IsPart from to hit
       part from to d ok k hit below e =
           let m = hit_at d ok.moves k hit below e in
           let between = λ (t : RayParameter) (positive : IsPositive t) (over : IsBelow hit.from t) (under : IsBelow t hit.to).
