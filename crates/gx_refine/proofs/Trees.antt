@@ -4,10 +4,11 @@ use Rattle.std.specs.Prelude.{IfOk}
 use Rattle.std.specs.List.{All, range_with_len}
 use Rattle.std.proofs.lemmas.List.FromFn.{length-range_with_len, get_or-range_with_len}
 use Rattle.gx_num.specs.declared.extent.Extent.{Extent}
-use Rattle.gx_voxel.specs.Members.{IsProper, extent_at}
+use Rattle.gx_boxes.specs.Boxes.{IsProper}
+use Rattle.gx_voxel.specs.Members.{extent_at}
 use Rattle.gx_voxel.specs.Cut.{SliceRun, Cut, cut_of}
 use Rattle.gx_voxel.specs.Cells.{without}
-use Rattle.gx_voxel.specs.Proxy.{content_of, axis_of, list_of, Alike, IsRun, StandsAs, StandsWithin}
+use Rattle.gx_voxel.specs.Proxy.{content_of, axis_of, list_of, Alike, IsNode, IsRun, StandsAs, StandsWithin}
 use Rattle.gx_voxel.specs.declared.proxy.Proxy.{Proxy}
 use Rattle.gx_voxel.specs.declared.proxy.Header.{Header}
 use Rattle.gx_voxel.specs.declared.proxy.Run.{Run}
@@ -35,18 +36,18 @@ module _ {X Y : Type 0} (R : X → Y → Type 0) where
 
 -- ---- what a tree stands for
 module _ (at : ℕ → Extent) (ks axes : List ℕ) (p : Proxy) where
-  pub stands-last : content_of p ≡ inl ks → StandsWithin at zero p ks axes
+  pub stands-last : IsNode at p ks → StandsWithin at zero p ks axes
   unfolding StandsWithin
   stands-last h = h
 
   abbrev Owes : ℕ → Option Cut → Type 0
-  Owes n o = StandsAs (λ axis q members. StandsWithin at n q members (without axis axes)) p ks o
+  Owes n o = StandsAs at (λ axis q members. StandsWithin at n q members (without axis axes)) p ks o
 
   stands-next : (n : ℕ) → Owes n (cut_of at ks axes) → StandsWithin at (suc n) p ks axes
   unfolding StandsWithin
   stands-next n h = h
 
-  pub stands-node : (n : ℕ) → cut_of at ks axes ≡ None → content_of p ≡ inl ks → StandsWithin at n p ks axes
+  pub stands-node : (n : ℕ) → cut_of at ks axes ≡ None → IsNode at p ks → StandsWithin at n p ks axes
   stands-node zero e h = stands-last h
   stands-node (suc n) e h = stands-next n (subst (Owes n) (sym e) h)
 

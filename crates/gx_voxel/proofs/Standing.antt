@@ -1,13 +1,14 @@
 -- The cut of members, and the runs of a header that stands for them.
-use Rattle.std.proofs.Common.{◌≡◌, ℕ, zero, suc, ◌<◌, ◌≤◌, inl, refl, subst, arith, ◌<ℤ◌, Bool, true, false, List, [], ◌∷◌, length, filter, Option, None, Some, cond}
+use Rattle.std.proofs.Common.{◌≡◌, ℕ, zero, suc, ◌<◌, ◌≤◌, inl, refl, sym, ◌∙◌, subst, arith, ◌<ℤ◌, Bool, true, false, List, [], ◌∷◌, length, filter, Option, None, Some, cond}
 use Rattle.std.specs.Prelude.{◌==◌}
 use Rattle.std.specs.List.{All}
 use Rattle.gx_num.specs.declared.extent.Extent.{Extent}
-use Rattle.gx_voxel.specs.Members.{IsProper}
+use Rattle.gx_boxes.specs.Boxes.{IsProper}
 use Rattle.gx_voxel.specs.Cut.{Interval, Grid, Cut, interval_on, grid_of, members_in, cut_of}
 use Rattle.gx_voxel.specs.Cells.{without}
 use Rattle.gx_voxel.specs.Proxy.{list_of, AreRuns, StandsAs, StandsWithin}
-use Rattle.gx_voxel.specs.Laws.{IsOneOf, HeadersHaveRuns}
+use Rattle.gx_offers.specs.Offers.{IsOneOf}
+use Rattle.gx_voxel.specs.Laws.{HeadersHaveRuns}
 use Rattle.gx_voxel.proofs.Elements.{cut-is}
 use Rattle.gx_voxel.proofs.Slices.{count-some}
 use Rattle.gx_voxel.proofs.Grown.{InTurn, runs-turn, turn-runs}
@@ -54,11 +55,11 @@ module _ (at : ℕ → Extent) where
 
 pub header-runs : HeadersHaveRuns
 unfolding StandsWithin
-header-runs at zero p ks axes h proper stands is = absurd (cc)
+header-runs at zero p ks axes h proper stands is = let e = sym stands.is ∙ is in absurd (cc)
 header-runs at (suc n) p ks axes h proper stands is = go (cut_of at ks axes) (is-cut at (λ ms. Unit {0}) ks axes (λ test. tt) proper) stands
   where
-    go : (o : Option Cut) → ((cut : Cut) → o ≡ Some cut → IsCut (λ ms. Unit {0}) axes cut) → StandsAs (λ axis q members. StandsWithin at n q members (without axis axes)) p ks o → AreRuns (list_of h)
-    go None cut stands = absurd (cc)
+    go : (o : Option Cut) → ((cut : Cut) → o ≡ Some cut → IsCut (λ ms. Unit {0}) axes cut) → StandsAs at (λ axis q members. StandsWithin at n q members (without axis axes)) p ks o → AreRuns (list_of h)
+    go None cut stands = let e = sym stands.is ∙ is in absurd (cc)
     go (Some c) cut stands =
         let k = cut c refl in
         let same : stands.0 ≡ h = cc in

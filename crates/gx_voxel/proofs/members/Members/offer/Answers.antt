@@ -1,0 +1,23 @@
+use Rattle.std.proofs.Common.{◌≡◌, ◌+◌, ◌∷◌, [], arith, ap, add-one, sym, ◌∙◌, subst, take, get_or}
+use Rattle.std.proofs.Math.Seq.{take-suc}
+use Rattle.std.proofs.lemmas.List.{take_all}
+use Rattle.gx_offers.specs.Offers.{IsOffered}
+use Rattle.gx_offers.proofs.Offered.{both, one, weaker}
+use Rattle.gx_boxes.specs.Boxes.{IsMet}
+use Rattle.gx_voxel.proofs.members.Members.offer.Goals as goal
+
+pub loop-k-preserved : goal.loop-k-preserved
+loop-k-preserved c =
+    let ks = c.deref-k-items.result.now in
+    let i = c.loop-k.k-index in
+    let k = get_or ks i 0 in
+    let next = ap (λ j. take j ks) (add-one i) ∙ take-suc ks i 0 c.loop-k-test.true in
+    let now = subst (IsOffered (λ k. Unit {0}) (k ∷ []) c.loop-k.offers) (sym c.offer.ensures) (one (λ k. Unit {0}) c.loop-k.offers k) in
+    subst (λ l. IsOffered (λ k. Unit {0}) l c.args.offers.now c.offer.new.self) (sym next) (both (λ k. Unit {0}) (take i ks) (k ∷ []) c.args.offers.now c.loop-k.offers c.offer.new.self c.loop-k.invariant now)
+
+pub returns : goal.returns
+returns c = λ at kept.
+    let all = take_all c.loop-k.k-index c.deref-k-items.result.now (omega (arith, c.loop-k-test.false)) ∙ c.deref-k-items.ensures.value in
+    let numbers = ap (λ h. h.numbers) c.self.view_is in
+    weaker (λ k. Unit {0}) (λ k. IsMet (at k) c.args.ray.now) c.args.self.now.numbers c.args.offers.now c.loop-k.offers (λ k h d. tt)
+        (subst (λ l. IsOffered (λ k. Unit {0}) l c.args.offers.now c.loop-k.offers) (all ∙ numbers) c.loop-k.invariant)
