@@ -178,11 +178,11 @@ module _ (Stands : Proxy → List ℕ → Type 0) (h : Header) (cut : Cut) (c : 
 
 pub headers-rise : HeadersRise
 unfolding StandsWithin
-headers-rise at zero p ks axes h proper stands is = absurd (cc)
+headers-rise at zero p ks axes h proper stands is = let e = sym stands.is ∙ is in absurd (cc)
 headers-rise at (suc n) p ks axes h proper stands is = go (cut_of at ks axes) (small-cut at ks axes proper) stands
   where
-    go : (o : Option Cut) → ((cut : Cut) → o ≡ Some cut → IsSmallCut cut) → StandsAs (λ axis q members. StandsWithin at n q members (without axis axes)) p ks o → IsRising h × HasRuns h
-    go None cut stands = absurd (cc)
+    go : (o : Option Cut) → ((cut : Cut) → o ≡ Some cut → IsSmallCut cut) → StandsAs at (λ axis q members. StandsWithin at n q members (without axis axes)) p ks o → IsRising h × HasRuns h
+    go None cut stands = let e = sym stands.is ∙ is in absurd (cc)
     go (Some c) cut stands =
         let same : stands.0 ≡ h = cc in
         subst (λ x. IsRising x × HasRuns x) same (rising (λ q members. StandsWithin at n q members (without c.axis axes)) stands.0 c (cut c refl) stands.3)
