@@ -158,8 +158,15 @@ module _ {D : Type 0} (hits : D → List (Hit D)) where
   -- ---- the fronts of paths at which there is a header
 
   module _ (has : D → Bool) where
+    abbrev empty_if : Bool → List (List ℕ)
+    empty_if b = if b then [] ∷ [] else []
+
     abbrev at_header : D → List (List ℕ)
-    at_header d = if has d then [] ∷ [] else []
+    at_header d = empty_if (has d)
+
+    length-empty : (b : Bool) → length (empty_if b) ≡ (if b then 1 else 0)
+    length-empty true = refl
+    length-empty false = refl
 
     header_paths : ℕ → D → List (List ℕ)
     header_paths zero d = []
@@ -183,11 +190,7 @@ module _ {D : Type 0} (hits : D → List (Hit D)) where
     length-header : (n : ℕ) (from to : RayParameter) (d : D) → length (header_paths n d) ≡ cost_of least hits n from to d
     unfolding header_paths
     length-header zero from to d = refl
-    length-header (suc n) from to d = length-append (at_header d) (flat_map (deeper n) (hits d)) ∙ omega (arith, length-deeper n (length-header n) (hits d), by (has d))
-      where
-        by : (b : Bool) → length (if b then [] ∷ [] else []) ≡ (if b then 1 else 0)
-        by true = refl
-        by false = refl
+    length-header (suc n) from to d = length-append (at_header d) (flat_map (deeper n) (hits d)) ∙ omega (arith, length-deeper n (length-header n) (hits d), length-empty (has d))
 
     -- P is said of a volume and a path from it to one that has a header
     module _ (P : D → List ℕ → Type 0) (here : (d : D) → P d [] → has d ≡ true) (there : (d : D) → AllByRecursion (λ h. (path : List ℕ) → P d (h.ordinal ∷ path) → P h.daughter path) (hits d)) where
@@ -207,7 +210,7 @@ module _ {D : Type 0} (hits : D → List (Hit D)) where
           by false = tt
 
       front_header : (d : D) (rest : List (List ℕ)) → P d [] → IsOne [] (at_header d ++ rest)
-      front_header d rest p = subst (λ b. IsOne [] ((if b then [] ∷ [] else []) ++ rest)) (sym (here d p)) (inl refl)
+      front_header d rest p = subst (λ b. IsOne [] (empty_if b ++ rest)) (sym (here d p)) (inl refl)
 
       fronted_under : (d : D) (n : ℕ) (h : Hit D) (rest : List (List ℕ)) → ((path : List ℕ) → P d (h.ordinal ∷ path) → P h.daughter path) → (pieces : List Piece)
           → AllByRecursion (IsFronted h.daughter (header_paths n h.daughter)) pieces → AllByRecursion (IsFronted d (at_header d ++ (deeper n h ++ rest))) (map (under h.ordinal) pieces)
@@ -319,7 +322,7 @@ module _ (h : Hierarchy) (tree : IsTree h) (clean : IsClean h) (ray : Ray) (move
       where
         by : (paths : List (List ℕ)) → AllByRecursion (IsToDaughter (open_rows pieces)) paths → AllByRecursion (λ p. IsOne p (met_paths (hits h) max_length world)) paths
         by [] each = tt
-        by (path ∷ paths) ((some, row), each) = (row_known (met_paths (hits h) max_length world) pieces path (known_pieces (hits h) max_length from to world) some row, by paths each)
+        by (path ∷ paths) ((some, row), each) = (row_known (hits h) (met_paths (hits h) max_length world) pieces path (known_pieces (hits h) max_length from to world) some row, by paths each)
 
     abbrev has_header : Frame → Bool
     has_header f = is_some (cut_by h f.volume (volume_at h.volumes f.volume).placements)
@@ -353,11 +356,11 @@ module _ (h : Hierarchy) (tree : IsTree h) (clean : IsClean h) (ray : Ray) (move
         no_more has.paths (header_paths (hits h) has_header max_length world) has.different (by has.paths (subst (λ l. AllByRecursion (IsToHeader h l) has.paths) are has.each)),
         ))
       where
-        one_of : (o : Option Cut) → (if is_some o then 1 else 0) ≡ elim o [ None ↦ 0 | Some cut ↦ 1 ]
+        one_of : (o : Option Cut) → ◌≡◌ {A = ℕ} (if is_some o then 1 else 0) (elim o [ None ↦ 0 | Some cut ↦ 1 ])
         one_of None = refl
         one_of (Some cut) = refl
 
-        least_is : (λ (f : Frame). if has_header f then 1 else 0) ≡ (λ f. least_of h (place f))
+        least_is : ◌≡◌ {A = Frame → ℕ} (λ f. if has_header f then 1 else 0) (λ f. least_of h (place f))
         least_is i f = one_of (cut_by h f.volume (volume_at h.volumes f.volume).placements) i
 
         by : (paths : List (List ℕ)) → AllByRecursion (IsToHeader h (open_rows pieces)) paths → AllByRecursion (λ p. IsOne p (header_paths (hits h) has_header max_length world)) paths
