@@ -1,0 +1,4 @@
+mod Placed
+mod Reached
+mod Counted
+mod Gone
