@@ -41,7 +41,7 @@ due-met at ray s k (a, b, t, crossing, den, above, below, within) = (t, (above_p
 
 -- ---- in a node
 module _ (at : ℕ → Extent) (p : Proxy) (ms : List ℕ) (is : content_of p ≡ inl ms) where
-  node-of : (n : ℕ) (ks axes : List ℕ) → StandsWithin at n p ks axes → (ms ≡ ks) × ((box : List Side) → cells_within at n box ks axes ≡ record { box = box; members = ks } ∷ [])
+  pub node-of : (n : ℕ) (ks axes : List ℕ) → StandsWithin at n p ks axes → (ms ≡ ks) × ((box : List Side) → cells_within at n box ks axes ≡ record { box = box; members = ks } ∷ [])
   unfolding StandsWithin cells_within
   node-of zero ks axes stands = (cc, λ box. refl)
   node-of (suc n) ks axes stands = go (cut_of at ks axes) stands

@@ -2,3 +2,4 @@ mod Placed
 mod Reached
 mod Counted
 mod Gone
+mod Going
