@@ -1,24 +1,26 @@
 -- From what the code does, run after run, to a descent.
-use Rattle.std.proofs.Common.{◌≡◌, ◌⊎◌, ℕ, zero, suc, ◌+◌, ◌-◌, ◌<◌, ◌≤◌, inl, inr, refl, sym, ap, subst, ◌∙◌, arith, add-one, ℤ, true, false, List, [], ◌∷◌, ◌++◌, length, get_or, Option, None, Some}
+use Rattle.std.proofs.Common.{◌≡◌, ◌⊎◌, ℕ, zero, suc, ◌+◌, ◌-◌, ◌<◌, ◌≤◌, inl, inr, refl, sym, ap, subst, ◌∙◌, arith, add-one, ◌^◌, ℤ, unsigned_abs, true, false, List, [], ◌∷◌, ◌++◌, length, get_or, Option, None, Some}
 use Rattle.std.specs.List.{All}
 use Rattle.std.proofs.lemmas.Bool.{cases_lt}
+use Rattle.gx_num.specs.Ray.{RayParameter}
 use Rattle.gx_num.specs.declared.extent.Extent.{Extent}
 use Rattle.gx_num.specs.declared.ray.Ray.{Ray}
 use Rattle.gx_offers.specs.Offers.{Offered}
 use Rattle.gx_voxel.specs.Cut.{Cut, coordinate, cut_of}
 use Rattle.gx_voxel.specs.Cells.{without}
-use Rattle.gx_voxel.specs.Proxy.{content_of, axis_of, list_of, proxy_of, StandsAs, StandsWithin}
+use Rattle.gx_voxel.specs.Proxy.{content_of, axis_of, list_of, low_of, high_of, proxy_of, StandsAs, StandsWithin}
 use Rattle.gx_voxel.specs.declared.proxy.Proxy.{Proxy}
 use Rattle.gx_voxel.specs.declared.proxy.Header.{Header}
 use Rattle.gx_voxel.specs.declared.proxy.Run.{Run}
 use Rattle.gx_along.specs.Along.{index_of, left_of, is_entered_at, part_at}
 use Rattle.gx_along.specs.Digits.{digits}
-use Rattle.gx_along.specs.Line.{time, is_left, IsStretch}
+use Rattle.gx_along.specs.Line.{time, is_left, is_entered, part_of, IsStretch}
 use Rattle.gx_along.specs.Runs.{IsRising, HasRuns, is_before, low_at, high_at}
 use Rattle.gx_along.specs.Walked.{walked, Walks}
 use Rattle.gx_along.specs.declared.line.Stretch.{Stretch}
 use Rattle.gx_along.specs.declared.runs.Seen.{Seen}
 use Rattle.gx_along.proofs.Ahead.{ahead}
+use Rattle.gx_along.proofs.Before.{read}
 use Rattle.gx_along.proofs.Stretches.{part-is-part}
 use Rattle.gx_descend.specs.Crossed.{Descends, StandsWithinSome, GoesInto, Crosses}
 use Rattle.gx_descend.proofs.Placed.{header-of, run_at, all-among, count, run-stands, run-proper}
@@ -55,6 +57,23 @@ sound (suc n) room p h (at, ks, axes, proper, below, stands) is =
             run-stands at n h ks axes w.0 w.1 i run less e);
     } in
     subst (λ m. IsSound m room h) (omega arith) s
+
+-- ---- a run of a header, read at its place
+module _ (h : Header) (i : ℕ) (run : Run) (less : i < length (list_of h)) (is : run ≡ get_or (list_of h) i run) where
+  low : low_of run ≡ low_at h i
+  low = read low_of (list_of h) i run less is
+
+  high : high_of run ≡ high_at h i
+  high = read high_of (list_of h) i run less is
+
+  pub small : IsRising h → (unsigned_abs (low_of run) ≤ 2 ^ 31) × (unsigned_abs (high_of run) ≤ 2 ^ 31)
+  small rising = (subst (λ z. unsigned_abs z ≤ 2 ^ 31) (sym low) (rising.low i), subst (λ z. unsigned_abs z ≤ 2 ^ 31) (sym high) (rising.high i))
+
+  pub entered-is : (o d : ℤ) (t : RayParameter) → is_entered_at o d h t i ≡ is_entered o d (low_of run) (high_of run) t
+  entered-is o d t = λ k. is_entered o d (sym low k) (sym high k) t
+
+  pub part-is : (o d : ℤ) (s : Stretch) → part_of o d (low_of run) (high_of run) s ≡ part_at o d h s i
+  part-is o d s = λ k. part_of o d (low k) (high k) s
 
 -- ---- run after run
 pub every-more : (P : ℕ → Type 0) (j : ℕ) → ((m : ℕ) → m < j → P m) → P j → (m : ℕ) → m < j + 1 → P m

@@ -41,18 +41,18 @@ due-met at ray s k (a, b, t, crossing, den, above, below, within) = (t, (above_p
 
 -- ---- in a node
 module _ (at : ℕ → Extent) (p : Proxy) (ms : List ℕ) (is : content_of p ≡ inl ms) where
-  pub node-of : (n : ℕ) (ks axes : List ℕ) → StandsWithin at n p ks axes → (ms ≡ ks) × ((box : List Side) → cells_within at n box ks axes ≡ record { box = box; members = ks } ∷ [])
+  pub node-of : (n : ℕ) (ks axes : List ℕ) → StandsWithin at n p ks axes → (ms ≡ ks) × ((cut : Cut) → cut_of at ks axes ≡ Some cut → 0 < n → ⊥) × ((box : List Side) → cells_within at n box ks axes ≡ record { box = box; members = ks } ∷ [])
   unfolding StandsWithin cells_within
-  node-of zero ks axes stands = (cc, λ box. refl)
-  node-of (suc n) ks axes stands = go (cut_of at ks axes) stands
+  node-of zero ks axes stands = (cc, λ cut e some. omega (arith, some), λ box. refl)
+  node-of (suc n) ks axes stands = go (cut_of at ks axes) refl stands
     where
-      go : (o : Option Cut) → StandsAs (λ axis q members. StandsWithin at n q members (without axis axes)) p ks o
-          → (ms ≡ ks) × ((box : List Side) → elim o as (λ _. List Cell) [
+      go : (o : Option Cut) → cut_of at ks axes ≡ o → StandsAs (λ axis q members. StandsWithin at n q members (without axis axes)) p ks o
+          → (ms ≡ ks) × ((cut : Cut) → cut_of at ks axes ≡ Some cut → 0 < suc n → ⊥) × ((box : List Side) → elim o as (λ _. List Cell) [
             | None ↦ record { box = box; members = ks } ∷ []
             | Some cut ↦ flat_map (λ run. cells_within at n (side_of cut.axis run ∷ box) run.members (without cut.axis axes)) cut.runs
           ] ≡ record { box = box; members = ks } ∷ [])
-      go None stood = (cc, λ box. refl)
-      go (Some cut) stood = absurd (cc (is, stood.1))
+      go None e stood = (cc, λ cut f some. absurd (cc (e, f)), λ box. refl)
+      go (Some cut) e stood = absurd (cc (is, stood.1))
 
 pub node-descends : (n : ℕ) (ray : Ray) (s : Stretch) (p : Proxy) (ms : List ℕ) (old new : Offered) (r : ℕ) → IsStretch s → content_of p ≡ inl ms → ((at : ℕ → Extent) → IsOffered (λ k. IsMet (at k) ray) ms old new) → Descends n ray s p old new r r
 node-descends n ray s p ms old new r ok is offers at ks axes proper stands =
@@ -65,8 +65,9 @@ node-descends n ray s p ms old new r ok is offers at ks axes proper stands =
       whole = λ k one due. o.whole k one (due-met at ray s k due);
       tests = λ met box test along.
           let one : tests_within met (record { box = box; members = ks } ∷ []) ≡ 0 + (if met box then length ks else 0) = refl in
-          omega (arith, o.few, ap (tests_within met) (node.1 box), one, if-true (met box) (length ks) (passes ray s met box ok test along));
+          omega (arith, o.few, ap (tests_within met) (node.2 box), one, if-true (met box) (length ks) (passes ray s met box ok test along));
       reads = λ met box test along. omega arith;
+      some = λ cut e some. absurd (node.1 cut e some);
       more = omega arith;
     }
 
@@ -176,6 +177,7 @@ module _ (at : ℕ → Extent) (n : ℕ) (h : Header) (ks axes : List ℕ) (prop
         reads = λ met box test along.
             let all' = reads-are met box ∙ if-true (met box) ((1 + 2 * digits (length cut.runs)) + sum_by (R met box) cut.runs) (passes ray s met box ok test along) in
             omega (arith, c.search, ap digits runs, g.reads met box test along, most (R met box), all', c.most);
+        some = λ _ e _. omega (arith, c.some w.some, g.more, c.close);
         more = omega (arith, c.some w.some, g.more, c.close);
       }
 

@@ -1,12 +1,12 @@
 -- Private to this crate: descents through any number of headers, and going along one.
-use Rattle.std.specs.Prelude.{◌≡◌, ◌⊎◌, ◌≤◌, ◌<◌, ◌+◌, ℕ, Bool, List, [], ◌∷◌, length, slice_index_or}
+use Rattle.std.specs.Prelude.{◌≡◌, ◌⊎◌, ◌≤◌, ◌<◌, ◌+◌, ℕ, Bool, List, [], ◌∷◌, length, slice_index_or, Some}
 use Rattle.std.specs.List.{All}
 use Rattle.gx_num.specs.Ray.{RayParameter, point_of_ray}
 use Rattle.gx_num.specs.declared.extent.Extent.{Extent}
 use Rattle.gx_num.specs.declared.ray.Ray.{Ray}
 use Rattle.gx_offers.specs.Offers.{IsOneOf, Offered}
 use Rattle.gx_voxel.specs.Cells.{Side, IsInBox, cells_within}
-use Rattle.gx_voxel.specs.Cut.{coordinate}
+use Rattle.gx_voxel.specs.Cut.{Cut, coordinate, cut_of}
 use Rattle.gx_voxel.specs.Members.{IsProper}
 use Rattle.gx_voxel.specs.Proxy.{axis_of, list_of, proxy_of, StandsWithin}
 use Rattle.gx_voxel.specs.declared.proxy.Proxy.{Proxy}
@@ -32,6 +32,7 @@ pub record IsDescendedWithin (at : ℕ → Extent) (n : ℕ) (ks axes : List ℕ
   pub whole : (k : ℕ) → IsOneOf k ks → IsDue at ray s k → IsOneOf k new.numbers
   pub tests : (met : List Side → Bool) (box : List Side) → IsBoxTest ray s met → IsAlong ray s box → length new.numbers ≤ length old.numbers + tests_within met (cells_within at n box ks axes)
   pub reads : (met : List Side → Bool) (box : List Side) → IsBoxTest ray s met → IsAlong ray s box → after ≤ before + reads_within met at n box ks axes
+  pub some : (cut : Cut) → cut_of at ks axes ≡ Some cut → 0 < n → before < after
   pub more : before ≤ after
 
 -- the same for all members that a proxy stands for
