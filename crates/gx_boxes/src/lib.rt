@@ -2,8 +2,12 @@
 #![tactic(auto)]
 
 mod boxed;
+mod bounds;
+mod part;
 mod rejection;
 mod slab;
+mod tree;
 
 pub use boxed::Boxed;
 pub use rejection::misses;
+pub use tree::BoxTree;
