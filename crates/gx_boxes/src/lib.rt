@@ -1,8 +1,8 @@
 //! Boxes along a ray: which of them it may meet.
 #![tactic(auto)]
 
-mod boxed;
 mod bounds;
+mod boxed;
 mod part;
 mod rejection;
 mod slab;
