@@ -6,7 +6,7 @@ use Rattle.std.proofs.lemmas.Bool.{cases_lt}
 use Rattle.std.proofs.lemmas.Int.{ints}
 use Rattle.gx_num.specs.Ray.{RayParameter}
 use Rattle.gx_algebra.proofs.Order.{mul-le-left}
-use Rattle.gx_voxel.specs.Laws.{AnyByRecursion}
+use Rattle.gx_offers.specs.Offers.{AnyByRecursion}
 use Rattle.gx_voxel.specs.declared.proxy.Header.{Header}
 use Rattle.gx_voxel.specs.Proxy.{list_of}
 use Rattle.gx_along.specs.declared.line.Stretch.{Stretch}

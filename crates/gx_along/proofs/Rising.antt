@@ -6,10 +6,10 @@ use Rattle.std.specs.Int.{int_min, int_max}
 use Rattle.std.proofs.lemmas.Bool.{cases_lt}
 use Rattle.std.proofs.lemmas.Int.{ints}
 use Rattle.gx_num.specs.declared.extent.Extent.{Extent}
-use Rattle.gx_voxel.specs.Members.{IsProper, reach}
+use Rattle.gx_boxes.specs.Boxes.{IsProper, reach}
 use Rattle.gx_voxel.specs.Cut.{Interval, Grid, SliceRun, Cut, interval_on, least, greatest, grid_of, bound_at, members_in, cut_of}
 use Rattle.gx_voxel.specs.Cells.{without}
-use Rattle.gx_voxel.specs.Laws.{IsOneOf}
+use Rattle.gx_offers.specs.Offers.{IsOneOf}
 use Rattle.gx_voxel.specs.Proxy.{list_of, low_of, high_of, Alike, IsRun, StandsAs, StandsWithin}
 use Rattle.gx_voxel.specs.declared.proxy.Proxy.{Proxy}
 use Rattle.gx_voxel.specs.declared.proxy.Header.{Header}

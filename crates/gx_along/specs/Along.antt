@@ -2,7 +2,7 @@
 use Rattle.std.specs.Prelude.{◌≡◌, ◌≤◌, ◌<◌, ◌+◌, ◌-◌, ℕ, ℤ, pos, int_lt, Bool, if◌then◌else◌, List, length, get_or}
 use Rattle.std.specs.List.{AllByRecursion}
 use Rattle.gx_num.specs.Ray.{RayParameter}
-use Rattle.gx_voxel.specs.Laws.{AnyByRecursion}
+use Rattle.gx_offers.specs.Offers.{AnyByRecursion}
 use Rattle.gx_voxel.specs.declared.proxy.Header.{Header}
 use Rattle.gx_voxel.specs.Proxy.{list_of}
 use Rattle.gx_along.specs.declared.line.Stretch.{Stretch}

@@ -3,7 +3,7 @@ use Rattle.std.specs.Prelude.{◌≡◌, ℕ, List}
 use Rattle.std.specs.List.{All}
 use Rattle.std.proofs.Common.{inr}
 use Rattle.gx_num.specs.declared.extent.Extent.{Extent}
-use Rattle.gx_voxel.specs.Members.{IsProper}
+use Rattle.gx_boxes.specs.Boxes.{IsProper}
 use Rattle.gx_voxel.specs.Proxy.{content_of, StandsWithin}
 use Rattle.gx_voxel.specs.declared.proxy.Proxy.{Proxy}
 use Rattle.gx_voxel.specs.declared.proxy.Header.{Header}

@@ -6,7 +6,8 @@ use Rattle.std.proofs.lemmas.List.Kept.{IsStrictlyIncreasing-filter}
 use Rattle.std.proofs.lemmas.List.Elements.{All-filter}
 use Rattle.std.proofs.lemmas.List.Sums.{length-filter, count_by-le-length}
 use Rattle.gx_num.specs.declared.extent.Extent.{Extent}
-use Rattle.gx_voxel.specs.Members.{IsProper, extent_at}
+use Rattle.gx_boxes.specs.Boxes.{IsProper}
+use Rattle.gx_voxel.specs.Members.{extent_at}
 use Rattle.gx_voxel.specs.Cut.{Grid, SliceRun, grid_of, bound_at, members_in, runs_on}
 use Rattle.gx_voxel.proofs.Slices.{bound-rises, bound-next}
 use Rattle.gx_voxel.proofs.Grown.{InTurn, runs-turn, turn-few, turn-each}

@@ -4,7 +4,8 @@ use Rattle.std.specs.Prelude.{IfOk}
 use Rattle.std.specs.List.{All, range_with_len}
 use Rattle.std.proofs.lemmas.List.FromFn.{length-range_with_len, get_or-range_with_len}
 use Rattle.gx_num.specs.declared.extent.Extent.{Extent}
-use Rattle.gx_voxel.specs.Members.{IsProper, extent_at}
+use Rattle.gx_boxes.specs.Boxes.{IsProper}
+use Rattle.gx_voxel.specs.Members.{extent_at}
 use Rattle.gx_voxel.specs.Cut.{SliceRun, Cut, cut_of}
 use Rattle.gx_voxel.specs.Cells.{without}
 use Rattle.gx_voxel.specs.Proxy.{content_of, axis_of, list_of, Alike, IsRun, StandsAs, StandsWithin}

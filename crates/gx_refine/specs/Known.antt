@@ -2,7 +2,8 @@
 use Rattle.std.specs.Prelude.{ℕ, ◌*◌, ◌≤◌, ◌<◌, ◌<ℤ◌, unsigned_abs, List, length}
 use Rattle.std.specs.List.{All}
 use Rattle.gx_num.specs.declared.extent.Extent.{Extent}
-use Rattle.gx_voxel.specs.Members.{AreMembers, IsProper, extent_at, reach}
+use Rattle.gx_boxes.specs.Boxes.{IsProper, reach}
+use Rattle.gx_voxel.specs.Members.{AreMembers, extent_at}
 use Rattle.gx_voxel.specs.Cut.{Interval, Grid, SliceRun, interval_on}
 
 -- members of a list of extents, that these are proper

@@ -1,7 +1,8 @@
 ghost use Rattle.std.specs.Prelude.{◌≡◌, ◌<◌, ◌≤◌, filter, map, length, IfOk, unsigned_abs};
 ghost use Rattle.std.specs.Int.{int_min, int_max};
 ghost use Rattle.std.specs.List.{All};
-ghost use Rattle.gx_voxel.specs.Members.{IsProper, extent_at, reach};
+ghost use Rattle.gx_boxes.specs.Boxes.{IsProper, reach};
+ghost use Rattle.gx_voxel.specs.Members.{extent_at};
 ghost use Rattle.gx_voxel.specs.Cut.{coordinate, interval_on, least, greatest, grid_of, bound_at, meets};
 ghost use Rattle.gx_refine.specs.Known.{AreKnown, along};
 

@@ -1,7 +1,7 @@
 ghost use Rattle.std.specs.Prelude.{◌≡◌, ◌<◌, ◌≤◌, ◌+◌, length, IfOk};
 ghost use Rattle.std.specs.List.{All};
 ghost use Rattle.std.proofs.Common.{inr};
-ghost use Rattle.gx_voxel.specs.Members.{IsProper};
+ghost use Rattle.gx_boxes.specs.Boxes.{IsProper};
 ghost use Rattle.gx_voxel.specs.Proxy.{content_of, list_of};
 
 use crate::build;

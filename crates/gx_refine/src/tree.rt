@@ -1,7 +1,8 @@
 ghost use Rattle.std.specs.Prelude.{◌≡◌, [], ◌∷◌, ◌<◌, ◌≤◌, ◌<ℤ◌, length, IfOk};
 ghost use Rattle.std.specs.List.{All, range_with_len};
 ghost use Rattle.std.proofs.Common.{inl, inr};
-ghost use Rattle.gx_voxel.specs.Members.{AreMembers, IsProper, extent_at};
+ghost use Rattle.gx_boxes.specs.Boxes.{IsProper};
+ghost use Rattle.gx_voxel.specs.Members.{AreMembers, extent_at};
 ghost use Rattle.gx_voxel.specs.Cells.{without};
 ghost use Rattle.gx_voxel.specs.Proxy.{content_of, axis_of, list_of, AreRuns, IsRun, StandsWithin, StandsFor};
 ghost use Rattle.gx_refine.specs.Known.{AreKnown};

@@ -7,7 +7,9 @@ use Rattle.gx_num.specs.declared.extent.Extent.{Extent}
 use Rattle.gx_algebra.proofs.Order.{mul-le-left}
 use Rattle.gx_voxel.specs.Cut.{Interval, Grid, SliceRun, Cut, greatest, grid_of, bound_at, meets, members_in, runs_on, interval_on, cut_along, cut_of}
 use Rattle.gx_voxel.specs.Cells.{Side, Cell, IsInSide, IsInBox, coordinate4, side_of, without, cells_within}
-use Rattle.gx_voxel.specs.Laws.{AnyByRecursion, IsOneOf, IsWithinOpen, CellsCover}
+use Rattle.gx_offers.specs.Offers.{AnyByRecursion, IsOneOf}
+use Rattle.gx_boxes.specs.Boxes.{IsWithinOpen}
+use Rattle.gx_voxel.specs.Laws.{CellsCover}
 use Rattle.gx_voxel.proofs.Elements.{any-map, any-flat_map, kept, cut-is}
 use Rattle.gx_voxel.proofs.Grown.{HasSlice, runs-have}
 use Rattle.gx_voxel.proofs.Slices.{least-each, greatest-each, span-is, count-some, bound-rises, bound-first, bound-last}

@@ -4,7 +4,7 @@ use Rattle.std.specs.Prelude.{flat_map}
 use Rattle.std.specs.List.{All, AllByRecursion, find, list_all}
 use Rattle.gx_num.specs.declared.extent.Extent.{Extent}
 use Rattle.gx_voxel.specs.Cut.{Cut, cut_along, cut_of, best_of, is_as_good, is_worth_it}
-use Rattle.gx_voxel.specs.Laws.{AnyByRecursion, IsOneOf}
+use Rattle.gx_offers.specs.Offers.{AnyByRecursion, IsOneOf}
 
 -- what holds of both values holds of the one that a test takes
 pub by_test : {X : Type 0} (P : X → Type 0) (b : Bool) (x y : X) → (b ≡ true → P x) → (b ≡ false → P y) → P (cond b x y)

@@ -8,7 +8,8 @@ use Rattle.gx_voxel.specs.Cut.{Grid, SliceRun, bound_at, grown, run_of, runs_of}
 use Rattle.gx_voxel.specs.Proxy.{last_of, FollowOn, AreRuns, Alike, IsRun}
 use Rattle.gx_voxel.specs.declared.proxy.Proxy.{Proxy}
 use Rattle.gx_voxel.specs.declared.proxy.Run.{Run}
-use Rattle.gx_voxel.specs.Laws.{AnyByRecursion, EachNext}
+use Rattle.gx_offers.specs.Offers.{AnyByRecursion}
+use Rattle.gx_voxel.specs.Laws.{EachNext}
 use Rattle.gx_voxel.proofs.Elements.{by_test}
 
 -- a run of the grid that has slice i, whose members are these

@@ -6,7 +6,7 @@ use Rattle.std.proofs.Math.Nat.{div-mul-le_self, mul-div_left, zero-div, mul-le-
 use Rattle.std.proofs.lemmas.Nat.{le-div}
 use Rattle.std.proofs.lemmas.Int.{ints, int_min_is, int_max_is}
 use Rattle.gx_voxel.specs.Cut.{Interval, Grid, least, greatest, grid_of, bound_at}
-use Rattle.gx_voxel.specs.Laws.{IsOneOf}
+use Rattle.gx_offers.specs.Offers.{IsOneOf}
 
 module _ (f : ℕ → ℤ) where
   least-first : (z : ℤ) (ks : List ℕ) → fold int_min z (map f ks) ≤ℤ z

@@ -3,11 +3,12 @@ use Rattle.std.proofs.Common.{◌≡◌, ℕ, zero, suc, ◌<◌, ◌≤◌, inl
 use Rattle.std.specs.Prelude.{◌==◌}
 use Rattle.std.specs.List.{All}
 use Rattle.gx_num.specs.declared.extent.Extent.{Extent}
-use Rattle.gx_voxel.specs.Members.{IsProper}
+use Rattle.gx_boxes.specs.Boxes.{IsProper}
 use Rattle.gx_voxel.specs.Cut.{Interval, Grid, Cut, interval_on, grid_of, members_in, cut_of}
 use Rattle.gx_voxel.specs.Cells.{without}
 use Rattle.gx_voxel.specs.Proxy.{list_of, AreRuns, StandsAs, StandsWithin}
-use Rattle.gx_voxel.specs.Laws.{IsOneOf, HeadersHaveRuns}
+use Rattle.gx_offers.specs.Offers.{IsOneOf}
+use Rattle.gx_voxel.specs.Laws.{HeadersHaveRuns}
 use Rattle.gx_voxel.proofs.Elements.{cut-is}
 use Rattle.gx_voxel.proofs.Slices.{count-some}
 use Rattle.gx_voxel.proofs.Grown.{InTurn, runs-turn, turn-runs}

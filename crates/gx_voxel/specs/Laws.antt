@@ -1,35 +1,16 @@
 -- The laws of cells.
-use Rattle.std.specs.Prelude.{◌≡◌, ◌≢◌, ◌⊎◌, ℕ, ℤ, pos, ◌*ℤ◌, ◌<ℤ◌, List, [], ◌∷◌, length, Some}
+use Rattle.std.specs.Prelude.{◌≡◌, ◌≢◌, ℕ, pos, ◌<ℤ◌, List, [], ◌∷◌, length, Some}
 use Rattle.std.specs.List.{All}
 use Rattle.std.proofs.Common.{inr}
 use Rattle.gx_num.specs.Vector4.{Vec4}
 use Rattle.gx_num.specs.declared.extent.Extent.{Extent}
+use Rattle.gx_offers.specs.Offers.{AnyByRecursion, IsOneOf}
+use Rattle.gx_boxes.specs.Boxes.{IsProper, IsWithinOpen}
 use Rattle.gx_voxel.specs.Cut.{Cut, cut_of}
 use Rattle.gx_voxel.specs.Cells.{IsInBox, cells}
-use Rattle.gx_voxel.specs.Members.{IsProper}
 use Rattle.gx_voxel.specs.Proxy.{content_of, list_of, AreRuns, StandsWithin, StandsFor, boxes_within}
 use Rattle.gx_voxel.specs.declared.proxy.Proxy.{Proxy}
 use Rattle.gx_voxel.specs.declared.proxy.Header.{Header}
-
--- P holds of some element
-abbrev pub AnyByRecursion : {X : Type 0} → (X → Type 0) → List X → Type 0
-AnyByRecursion P [] = ⊥
-AnyByRecursion P (x ∷ xs) = P x ⊎ AnyByRecursion P xs
-
--- the number is one of the list
-abbrev pub IsOneOf : ℕ → List ℕ → Type 0
-IsOneOf k ks = AnyByRecursion (λ j. k ≡ j) ks
-
--- strictly between two coordinates
-pub record IsStrictlyBetween (low high at w : ℤ) : Type 0 where
-  pub above : (low *ℤ w) <ℤ at
-  pub below : at <ℤ (high *ℤ w)
-
--- the point is in the open extent: strictly between its least and its greatest coordinate on each axis
-pub record IsWithinOpen (e : Extent) (p : Vec4) : Type 0 where
-  pub x : IsStrictlyBetween e.low.x e.high.x p.x p.w
-  pub y : IsStrictlyBetween e.low.y e.high.y p.y p.w
-  pub z : IsStrictlyBetween e.low.z e.high.z p.z p.w
 
 -- a point in a member's open extent is in a box of the cells that has the member
 abbrev pub CellsCover : Type 0

@@ -1,10 +1,10 @@
--- Lists of members, by their numbers, and what is known of the members' extents.
-use Rattle.std.specs.Prelude.{ℕ, ◌*◌, ◌≤◌, pos, ◌<ℤ◌, unsigned_abs, List, length, slice_index_or}
-use Rattle.std.specs.List.Sorted.{IsStrictlyIncreasing}
+-- Lists of members, by their numbers, with their boxes.
+use Rattle.std.specs.Prelude.{◌≡◌, ◌⊎◌, ℕ, ◌≤◌, pos, List, [], length, map, slice_index_or}
+use Rattle.std.specs.List.{AllByRecursion}
+use Rattle.std.specs.List.Sorted.{IsStrictlyIncreasing, IsPermutation}
 use Rattle.gx_num.specs.declared.extent.Extent.{Extent}
-use Rattle.gx_num.specs.declared.vector.TheConstants.{M}
 use Rattle.gx_num.specs.declared.vector.V3.{V3}
-use Rattle.gx_num.specs.Vector.{IsWithin}
+use Rattle.gx_boxes.specs.declared.boxed.Boxed.{Boxed}
 
 -- the most members
 abbrev pub most : ℕ
@@ -15,17 +15,19 @@ pub record AreMembers (ks : List ℕ) : Type 0 where
   pub increasing : IsStrictlyIncreasing ks
   pub few : length ks ≤ most
 
--- the greatest magnitude of an extent's coordinate: of a daughter in her mother's frame
-abbrev pub reach : ℕ
-reach = 2 * unsigned_abs M
+-- The numbers of some members, and their boxes, if these are kept.
+pub record Held : Type 0 where
+  pub numbers : List ℕ
+  pub boxes : List Boxed
 
--- an extent within reach that isn't empty on any axis
-pub record IsProper (e : Extent) : Type 0 where
-  pub low : IsWithin reach e.low
-  pub high : IsWithin reach e.high
-  pub x : e.low.x <ℤ e.high.x
-  pub y : e.low.y <ℤ e.high.y
-  pub z : e.low.z <ℤ e.high.z
+-- members with no boxes, or one of each
+pub record AreHeld (m : Held) : Type 0 where
+  pub members : AreMembers m.numbers
+  pub boxes : (m.boxes ≡ []) ⊎ IsPermutation m.numbers (map (λ b. b.number) m.boxes)
+
+-- each box is the extent of the member with its number
+abbrev pub AreKept : (ℕ → Extent) → Held → Type 0
+AreKept at m = AllByRecursion (λ b. b.extent ≡ at b.number) m.boxes
 
 -- the extent of the member with a number, of a list in which it is
 abbrev pub extent_at : List Extent → ℕ → Extent

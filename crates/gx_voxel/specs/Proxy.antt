@@ -2,6 +2,7 @@
 use Rattle.std.specs.Prelude.{◌≡◌, ◌⊎◌, ℕ, zero, suc, ◌+◌, ◌≤◌, ◌<◌, ℤ, List, [], ◌∷◌, length, flat_map, Option, None, Some}
 use Rattle.std.proofs.Common.{inl, inr}
 use Rattle.gx_num.specs.declared.extent.Extent.{Extent}
+use Rattle.gx_voxel.specs.Members.{Held, AreKept}
 use Rattle.gx_voxel.specs.Cut.{SliceRun, Cut, cut_of}
 use Rattle.gx_voxel.specs.Cells.{Side, Cell, without}
 use Rattle.gx_voxel.specs.declared.proxy.Proxy.{Proxy, out-Proxy}
@@ -33,11 +34,18 @@ abbrev pub list_of : Header → List Run
 list_of h = (out-Header h).runs.items
 
 -- what a proxy holds: a node's members, or a header
-abbrev pub content_of : Proxy → List ℕ ⊎ Header
+abbrev pub content_of : Proxy → Held ⊎ Header
 content_of p = elim (out-Proxy p) [
   | Node members ↦ inl members
   | Refined header ↦ inr header.value
 ]
+
+-- a node with exactly these members, in order; where it keeps boxes, they are the members' extents
+pub record IsNode (at : ℕ → Extent) (p : Proxy) (ks : List ℕ) : Type 0 where
+  pub held : Held
+  pub is : content_of p ≡ inl held
+  pub numbers : held.numbers ≡ ks
+  pub kept : AreKept at held
 
 -- Each begins at the slice after the one before it, and at the coordinate where that ends; the first begins at these.
 abbrev pub FollowOn : ℕ → ℤ → List Run → Type 0
@@ -66,14 +74,14 @@ pub record IsRun (Stands : Proxy → List ℕ → Type 0) (r : Run) (run : Slice
   pub proxy : Stands (proxy_of r) run.members
 
 -- By the cut there is: a node with the members, or a header along the axis with exactly the runs, in order. `Stands` is said of the runs' proxies.
-abbrev pub StandsAs : (ℕ → Proxy → List ℕ → Type 0) → Proxy → List ℕ → Option Cut → Type 0
-StandsAs Stands p ks None = content_of p ≡ inl ks
-StandsAs Stands p ks (Some cut) = (h : Header) × (content_of p ≡ inr h) × (axis_of h ≡ cut.axis) × Alike (IsRun (Stands cut.axis)) (list_of h) cut.runs
+abbrev pub StandsAs : (ℕ → Extent) → (ℕ → Proxy → List ℕ → Type 0) → Proxy → List ℕ → Option Cut → Type 0
+StandsAs at Stands p ks None = IsNode at p ks
+StandsAs at Stands p ks (Some cut) = (h : Header) × (content_of p ≡ inr h) × (axis_of h ≡ cut.axis) × Alike (IsRun (Stands cut.axis)) (list_of h) cut.runs
 
 -- The proxy stands for the cells of these members, cut along the axes left at most so many times.
 unfoldable pub StandsWithin : (ℕ → Extent) → ℕ → Proxy → List ℕ → List ℕ → Type 0
-StandsWithin at zero p ks axes = content_of p ≡ inl ks
-StandsWithin at (suc n) p ks axes = StandsAs (λ axis q members. StandsWithin at n q members (without axis axes)) p ks (cut_of at ks axes)
+StandsWithin at zero p ks axes = IsNode at p ks
+StandsWithin at (suc n) p ks axes = StandsAs at (λ axis q members. StandsWithin at n q members (without axis axes)) p ks (cut_of at ks axes)
 
 -- the proxy stands for the cells of these members and axes
 abbrev pub StandsFor : (ℕ → Extent) → Proxy → List ℕ → List ℕ → Type 0
@@ -82,10 +90,10 @@ StandsFor at p ks axes = StandsWithin at (length axes) p ks axes
 -- the boxes of a proxy within a box, with the members of each, so many headers deep
 unfoldable pub boxes_within : ℕ → List Side → Proxy → List Cell
 boxes_within zero box p = elim (content_of p) [
-  | inl members ↦ record { box = box; members = members } ∷ []
+  | inl held ↦ record { box = box; members = held.numbers } ∷ []
   | inr h ↦ []
 ]
 boxes_within (suc n) box p = elim (content_of p) [
-  | inl members ↦ record { box = box; members = members } ∷ []
+  | inl held ↦ record { box = box; members = held.numbers } ∷ []
   | inr h ↦ flat_map (λ r. boxes_within n (record { axis = axis_of h; low = low_of r; high = high_of r } ∷ box) (proxy_of r)) (list_of h)
 ]

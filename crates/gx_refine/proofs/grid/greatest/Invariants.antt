@@ -1,6 +1,6 @@
 use Rattle.std.proofs.Common.{◌≡◌, ◌≤◌, slice_index, unsigned_abs, fold, take}
 use Rattle.std.specs.Int.{int_max}
-use Rattle.gx_voxel.specs.Members.{reach}
+use Rattle.gx_boxes.specs.Boxes.{reach}
 use Rattle.gx_refine.specs.Known.{along}
 use Rattle.gx_refine.proofs.grid.greatest.Given as goal
 

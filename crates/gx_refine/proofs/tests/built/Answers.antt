@@ -1,6 +1,7 @@
 use Rattle.std.proofs.Common.{◌≤◌, [], ◌∷◌, arith, sym, subst, length}
 use Rattle.std.specs.List.{All, range_with_len}
-use Rattle.gx_voxel.specs.Members.{IsProper, extent_at}
+use Rattle.gx_boxes.specs.Boxes.{IsProper}
+use Rattle.gx_voxel.specs.Members.{extent_at}
 use Rattle.gx_voxel.proofs.Standing.{header-runs}
 use Rattle.gx_refine.proofs.Parts.{known-proper}
 use Rattle.gx_refine.proofs.Trees.{all-known}

@@ -1,6 +1,6 @@
 use Rattle.std.proofs.Common.{◌≤◌, length}
 use Rattle.std.specs.List.{All}
-use Rattle.gx_voxel.specs.Members.{IsProper}
+use Rattle.gx_boxes.specs.Boxes.{IsProper}
 use Rattle.gx_refine.proofs.tests.extents_on_x.Given as goal
 
 abbrev pub invariant-loop-low : goal.invariant-loop-low
