@@ -181,7 +181,7 @@ unfolding StandsWithin
 headers-rise at zero p ks axes h proper stands is = absurd (cc)
 headers-rise at (suc n) p ks axes h proper stands is = go (cut_of at ks axes) (small-cut at ks axes proper) stands
   where
-    go : (o : Option Cut) → ((cut : Cut) → o ≡ Some cut → IsSmallCut cut) → StandsAs (λ axis q members. StandsWithin at n q members (without axis axes)) p ks o → IsRising h × HasRuns h
+    go : (o : Option Cut) → ((cut : Cut) → o ≡ Some cut → IsSmallCut cut) → StandsAs at (λ axis q members. StandsWithin at n q members (without axis axes)) p ks o → IsRising h × HasRuns h
     go None cut stands = absurd (cc)
     go (Some c) cut stands =
         let same : stands.0 ≡ h = cc in

@@ -5,9 +5,11 @@ use Rattle.std.proofs.lemmas.Bool.{cases_lt}
 use Rattle.gx_num.specs.Ray.{RayParameter}
 use Rattle.gx_num.specs.declared.extent.Extent.{Extent}
 use Rattle.gx_num.specs.declared.ray.Ray.{Ray}
-use Rattle.gx_offers.specs.Offers.{Offered}
+use Rattle.gx_offers.specs.Offers.{Offered, IsOffered}
+use Rattle.gx_boxes.specs.Boxes.{IsMet}
 use Rattle.gx_voxel.specs.Cut.{Cut, coordinate, cut_of}
 use Rattle.gx_voxel.specs.Cells.{without}
+use Rattle.gx_voxel.specs.Members.{Held, AreKept}
 use Rattle.gx_voxel.specs.Proxy.{content_of, axis_of, list_of, low_of, high_of, proxy_of, StandsAs, StandsWithin}
 use Rattle.gx_voxel.specs.declared.proxy.Proxy.{Proxy}
 use Rattle.gx_voxel.specs.declared.proxy.Header.{Header}
@@ -27,12 +29,16 @@ use Rattle.gx_descend.proofs.Placed.{header-of, run_at, all-among, count, run-st
 use Rattle.gx_descend.proofs.Gone.{node-of, header-descends}
 
 -- ---- a proxy that stands for some members
-pub node-below : (n room : ℕ) (p : Proxy) (ms : List ℕ) → StandsWithinSome n room p → content_of p ≡ inl ms → All (λ k. k < room) ms
-node-below n room p ms (at, ks, axes, proper, below, stands) is = subst (All (λ k. k < room)) (sym (node-of at p ms is n ks axes stands).0) below
+pub node-below : (n room : ℕ) (p : Proxy) (held : Held) → StandsWithinSome n room p → content_of p ≡ inl held → All (λ k. k < room) held.numbers
+node-below n room p held (at, ks, axes, proper, below, stands) is = subst (All (λ k. k < room)) (sym (node-of at p held is n ks axes stands).0.0) below
+
+-- the offers of its members keep the room
+pub node-room : (n room : ℕ) (p : Proxy) (held : Held) (ray : Ray) (old new : Offered) → StandsWithinSome n room p → content_of p ≡ inl held → ((at : ℕ → Extent) → AreKept at held → IsOffered (λ k. IsMet (at k) ray) held.numbers old new) → new.room ≡ old.room
+node-room n room p held ray old new (at, ks, axes, proper, below, stands) is offers = (offers at (node-of at p held is n ks axes stands).0.1).room
 
 last-node : (room : ℕ) (p : Proxy) (h : Header) → StandsWithinSome 0 room p → content_of p ≡ inr h → ⊥
 unfolding StandsWithin
-last-node room p h (at, ks, axes, proper, below, stands) is = absurd (cc)
+last-node room p h (at, ks, axes, proper, below, stands) is = absurd (cc (stands.is, is))
 
 -- its header
 pub record IsSound (n room : ℕ) (h : Header) : Type 0 where

@@ -8,10 +8,11 @@ use Rattle.gx_num.proofs.Order.{above_positive}
 use Rattle.gx_num.specs.declared.extent.Extent.{Extent}
 use Rattle.gx_num.specs.declared.ray.Ray.{Ray}
 use Rattle.gx_offers.specs.Offers.{AnyByRecursion, IsOneOf, Offered, IsOffered}
+use Rattle.gx_boxes.specs.Boxes.{IsProper, IsMet}
 use Rattle.gx_voxel.specs.Cells.{Side, Cell, side_of, without, cells_within}
 use Rattle.gx_voxel.specs.Cut.{Cut, SliceRun, coordinate, cut_of}
-use Rattle.gx_voxel.specs.Members.{IsProper}
-use Rattle.gx_voxel.specs.Proxy.{content_of, axis_of, list_of, proxy_of, StandsAs, StandsWithin}
+use Rattle.gx_voxel.specs.Members.{Held, AreKept}
+use Rattle.gx_voxel.specs.Proxy.{content_of, axis_of, list_of, proxy_of, IsNode, StandsAs, StandsWithin}
 use Rattle.gx_voxel.specs.declared.proxy.Proxy.{Proxy}
 use Rattle.gx_voxel.specs.declared.proxy.Header.{Header}
 use Rattle.gx_along.specs.Along.{IsExact}
@@ -22,7 +23,6 @@ use Rattle.gx_along.specs.Runs.{low_at, high_at}
 use Rattle.gx_along.specs.declared.line.Stretch.{Stretch}
 use Rattle.gx_along.specs.declared.runs.Seen.{Seen}
 use Rattle.gx_along.proofs.Exact.{exact}
-use Rattle.gx_descend.specs.Near.{IsMet}
 use Rattle.gx_descend.specs.Descent.{IsDue}
 use Rattle.gx_descend.specs.Crossed.{IsAlong, IsDescendedWithin, Descends, GoesInto, Crosses}
 use Rattle.gx_descend.proofs.Placed.{IsHeaderOf, header-of, run_at, count, low-is, high-is, run-stands, run-proper}
@@ -40,24 +40,27 @@ due-met : (at : ℕ → Extent) (ray : Ray) (s : Stretch) (k : ℕ) → IsDue at
 due-met at ray s k (a, b, t, crossing, den, above, below, within) = (t, (above_positive a t above, den), crossing.inside t den above below)
 
 -- ---- in a node
-module _ (at : ℕ → Extent) (p : Proxy) (ms : List ℕ) (is : content_of p ≡ inl ms) where
-  pub node-of : (n : ℕ) (ks axes : List ℕ) → StandsWithin at n p ks axes → (ms ≡ ks) × ((cut : Cut) → cut_of at ks axes ≡ Some cut → 0 < n → ⊥) × ((box : List Side) → cells_within at n box ks axes ≡ record { box = box; members = ks } ∷ [])
+module _ (at : ℕ → Extent) (p : Proxy) (held : Held) (is : content_of p ≡ inl held) where
+  same-node : (ks : List ℕ) → IsNode at p ks → (held.numbers ≡ ks) × AreKept at held
+  same-node ks node = let same : node.held ≡ held = cc (is, node.is) in subst (λ m. (m.numbers ≡ ks) × AreKept at m) same (node.numbers, node.kept)
+
+  pub node-of : (n : ℕ) (ks axes : List ℕ) → StandsWithin at n p ks axes → ((held.numbers ≡ ks) × AreKept at held) × ((cut : Cut) → cut_of at ks axes ≡ Some cut → 0 < n → ⊥) × ((box : List Side) → cells_within at n box ks axes ≡ record { box = box; members = ks } ∷ [])
   unfolding StandsWithin cells_within
-  node-of zero ks axes stands = (cc, λ cut e some. omega (arith, some), λ box. refl)
+  node-of zero ks axes stands = (same-node ks stands, λ cut e some. omega (arith, some), λ box. refl)
   node-of (suc n) ks axes stands = go (cut_of at ks axes) refl stands
     where
-      go : (o : Option Cut) → cut_of at ks axes ≡ o → StandsAs (λ axis q members. StandsWithin at n q members (without axis axes)) p ks o
-          → (ms ≡ ks) × ((cut : Cut) → cut_of at ks axes ≡ Some cut → 0 < suc n → ⊥) × ((box : List Side) → elim o as (λ _. List Cell) [
+      go : (o : Option Cut) → cut_of at ks axes ≡ o → StandsAs at (λ axis q members. StandsWithin at n q members (without axis axes)) p ks o
+          → ((held.numbers ≡ ks) × AreKept at held) × ((cut : Cut) → cut_of at ks axes ≡ Some cut → 0 < suc n → ⊥) × ((box : List Side) → elim o as (λ _. List Cell) [
             | None ↦ record { box = box; members = ks } ∷ []
             | Some cut ↦ flat_map (λ run. cells_within at n (side_of cut.axis run ∷ box) run.members (without cut.axis axes)) cut.runs
           ] ≡ record { box = box; members = ks } ∷ [])
-      go None e stood = (cc, λ cut f some. absurd (cc (e, f)), λ box. refl)
+      go None e stood = (same-node ks stood, λ cut f some. absurd (cc (e, f)), λ box. refl)
       go (Some cut) e stood = absurd (cc (is, stood.1))
 
-pub node-descends : (n : ℕ) (ray : Ray) (s : Stretch) (p : Proxy) (ms : List ℕ) (old new : Offered) (r : ℕ) → IsStretch s → content_of p ≡ inl ms → ((at : ℕ → Extent) → IsOffered (λ k. IsMet (at k) ray) ms old new) → Descends n ray s p old new r r
-node-descends n ray s p ms old new r ok is offers at ks axes proper stands =
-    let node = node-of at p ms is n ks axes stands in
-    let o : IsOffered (λ k. IsMet (at k) ray) ks old new = subst (λ l. IsOffered (λ k. IsMet (at k) ray) l old new) node.0 (offers at) in
+pub node-descends : (n : ℕ) (ray : Ray) (s : Stretch) (p : Proxy) (held : Held) (old new : Offered) (r : ℕ) → IsStretch s → content_of p ≡ inl held → ((at : ℕ → Extent) → AreKept at held → IsOffered (λ k. IsMet (at k) ray) held.numbers old new) → Descends n ray s p old new r r
+node-descends n ray s p held old new r ok is offers at ks axes proper stands =
+    let node = node-of at p held is n ks axes stands in
+    let o : IsOffered (λ k. IsMet (at k) ray) ks old new = subst (λ l. IsOffered (λ k. IsMet (at k) ray) l old new) node.0.0 (offers at node.0.1) in
     record {
       room = o.room;
       kept = o.kept;

@@ -3,9 +3,9 @@ use Rattle.std.proofs.Common.{◌≡◌, ◌⊎◌, ℕ, zero, suc, ◌+◌, ◌
 use Rattle.std.specs.List.{All}
 use Rattle.gx_num.specs.declared.extent.Extent.{Extent}
 use Rattle.gx_offers.specs.Offers.{AnyByRecursion, IsOneOf}
+use Rattle.gx_boxes.specs.Boxes.{IsProper}
 use Rattle.gx_voxel.specs.Cut.{Grid, SliceRun, Cut, cut_of}
 use Rattle.gx_voxel.specs.Cells.{without}
-use Rattle.gx_voxel.specs.Members.{IsProper}
 use Rattle.gx_voxel.specs.Proxy.{content_of, axis_of, list_of, low_of, high_of, proxy_of, Alike, IsRun, StandsAs, StandsWithin}
 use Rattle.gx_voxel.specs.declared.proxy.Proxy.{Proxy}
 use Rattle.gx_voxel.specs.declared.proxy.Header.{Header}
@@ -84,7 +84,7 @@ module _ (at : ℕ → Extent) where
   unfolding StandsWithin
   header-of n p h ks axes proper stands is = go (cut_of at ks axes) refl stands
     where
-      go : (o : Option Cut) → cut_of at ks axes ≡ o → StandsAs (λ axis q members. StandsWithin at n q members (without axis axes)) p ks o → (cut : Cut) × IsHeaderOf n h ks axes cut
+      go : (o : Option Cut) → cut_of at ks axes ≡ o → StandsAs at (λ axis q members. StandsWithin at n q members (without axis axes)) p ks o → (cut : Cut) × IsHeaderOf n h ks axes cut
       go None e stood = absurd (cc)
       go (Some cut) e stood =
           let same : stood.0 ≡ h = cc in

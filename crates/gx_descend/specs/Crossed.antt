@@ -5,9 +5,9 @@ use Rattle.gx_num.specs.Ray.{RayParameter, point_of_ray}
 use Rattle.gx_num.specs.declared.extent.Extent.{Extent}
 use Rattle.gx_num.specs.declared.ray.Ray.{Ray}
 use Rattle.gx_offers.specs.Offers.{IsOneOf, Offered}
+use Rattle.gx_boxes.specs.Boxes.{IsProper}
 use Rattle.gx_voxel.specs.Cells.{Side, IsInBox, cells_within}
 use Rattle.gx_voxel.specs.Cut.{Cut, coordinate, cut_of}
-use Rattle.gx_voxel.specs.Members.{IsProper}
 use Rattle.gx_voxel.specs.Proxy.{axis_of, list_of, proxy_of, StandsWithin}
 use Rattle.gx_voxel.specs.declared.proxy.Proxy.{Proxy}
 use Rattle.gx_voxel.specs.declared.proxy.Header.{Header}

@@ -5,10 +5,9 @@ use Rattle.gx_num.specs.Ray.{RayParameter, IsBelow, point_of_ray}
 use Rattle.gx_num.specs.declared.extent.Extent.{Extent}
 use Rattle.gx_num.specs.declared.ray.Ray.{Ray}
 use Rattle.gx_offers.specs.Offers.{IsOneOf, Offered}
+use Rattle.gx_boxes.specs.Boxes.{IsProper, IsWithinOpen}
 use Rattle.gx_voxel.specs.Cells.{Side, cells}
 use Rattle.gx_voxel.specs.Cut.{Cut, cut_of}
-use Rattle.gx_voxel.specs.Laws.{IsWithinOpen}
-use Rattle.gx_voxel.specs.Members.{IsProper}
 use Rattle.gx_voxel.specs.Proxy.{StandsFor}
 use Rattle.gx_voxel.specs.declared.proxy.Proxy.{Proxy}
 use Rattle.gx_along.specs.Bounds.{tests_within, reads_within, IsBoxTest}

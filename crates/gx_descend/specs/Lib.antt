@@ -1,3 +1,2 @@
 pub mod Crossed
 pub mod Descent
-pub mod Near

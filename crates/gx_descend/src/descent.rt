@@ -1,11 +1,9 @@
 ghost use Rattle.std.specs.Prelude.{◌≡◌, ℕ, List, ◌<◌, ◌≤◌, ◌^◌, true, false, unsigned_abs, MatchOption};
-ghost use Rattle.std.specs.List.{All};
 ghost use Rattle.gx_num.specs.declared.extent.Extent.{Extent};
-ghost use Rattle.gx_offers.specs.Offers.{IsOffered};
+ghost use Rattle.gx_boxes.specs.Boxes.{IsNear};
 ghost use Rattle.gx_voxel.specs.Cut.{coordinate};
 ghost use Rattle.gx_voxel.specs.Proxy.{low_of, high_of};
 ghost use Rattle.gx_along.specs.Line.{time, is_entered, part_of, IsStretch};
-ghost use Rattle.gx_descend.specs.Near.{IsNear, IsMet};
 ghost use Rattle.gx_descend.specs.Descent.{StandsForSome, IsTree, IsDescended};
 ghost use Rattle.gx_descend.specs.Crossed.{Descends, StandsWithinSome};
 
@@ -13,7 +11,7 @@ use gx_along::{Bounds, Line, Stretch, first_left, index_of, is_entered, left_of,
 use gx_num::{Ray, V3};
 use gx_offers::Offers;
 use gx_steps::Steps;
-use gx_voxel::{Members, Proxy, Run};
+use gx_voxel::{Proxy, Run};
 use std::sync::ledger::Ledger;
 
 fn coordinate(axis: u8, v: &V3) -> i64
@@ -56,15 +54,6 @@ fn part_in(run: &Run, line: Line, stretch: Stretch) -> Option<Stretch>
     Some(part(line, bounds, stretch))
 }
 
-fn offer_members(members: &Members, ray: &Ray, offers: &mut Offers)
-    requires { All (λ k. k < offers.old.room) members.now }
-    ensures { (at : ℕ → Extent) → IsOffered (λ k. IsMet (at k) ray.now) members.now offers.old offers.new }
-{
-    for i in 0..members.count() {
-        offers.offer(members.at(i));
-    }
-}
-
 /// Down a tree along a ray: what may have a point of the stretch is offered, each run that the ray comes to is read once.
 pub fn descend<L: Ledger>(
     proxy: &Proxy,
@@ -97,7 +86,7 @@ fn go<L: Ledger>(
     ensures room { offers.new.room ≡ offers.old.room }
 {
     match proxy {
-        Proxy::Node(members) => offer_members(members, ray, offers),
+        Proxy::Node(members) => members.offer(ray, offers),
         Proxy::Refined(boxed) => {
             let header = &**boxed;
             if n == 0 {

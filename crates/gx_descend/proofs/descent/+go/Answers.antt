@@ -6,12 +6,12 @@ use Rattle.gx_along.specs.Along.{is_entered_at, index_of, left_of}
 use Rattle.gx_along.specs.Line.{time, IsStretch}
 use Rattle.gx_descend.specs.Crossed.{StandsWithinSome}
 use Rattle.gx_descend.proofs.Gone.{node-descends}
-use Rattle.gx_descend.proofs.Going.{node-below, not-last, sound, small, entered-is, part-is, every-more, part-stretch, more-seen, crossed}
+use Rattle.gx_descend.proofs.Going.{node-below, node-room, not-last, sound, small, entered-is, part-is, every-more, part-stretch, more-seen, crossed}
 use Rattle.gx_descend.proofs.descent.+go.Goals as goal
 
-pub offer_members-requires : goal.offer_members-requires
+pub offer-requires-clause-room : goal.offer-requires-clause-room
 unfolding proxy.out-Proxy denote.Hole.Carrier.out
-offer_members-requires g t c = node-below c.args.n c.args.offers.now.room c.args.proxy.now c.in-Node.members c.requires.some (ap content_of c.in-Node.is)
+offer-requires-clause-room g t c = node-below c.args.n c.args.offers.now.room c.args.proxy.now c.in-Node.members c.requires.some (ap content_of c.in-Node.is)
 
 pub returns-then-n-eq0-clause-descends : goal.returns-then-n-eq0-clause-descends
 unfolding proxy.out-Proxy denote.Hole.Carrier.out
@@ -110,10 +110,11 @@ loop-j-preserved g t c =
 
 pub returns-in-Node-clause-descends : goal.returns-in-Node-clause-descends
 unfolding proxy.out-Proxy denote.Hole.Carrier.out
-returns-in-Node-clause-descends g t c = node-descends c.args.n c.args.ray.now c.args.stretch c.args.proxy.now c.in-Node.members _ _ c.args.reads.now c.requires.stretch (ap content_of c.in-Node.is) c.offer_members.ensures
+returns-in-Node-clause-descends g t c = node-descends c.args.n c.args.ray.now c.args.stretch c.args.proxy.now c.in-Node.members _ _ c.args.reads.now c.requires.stretch (ap content_of c.in-Node.is) c.offer.ensures
 
 pub returns-in-Node-clause-room : goal.returns-in-Node-clause-room
-returns-in-Node-clause-room g t c = (c.offer_members.ensures c.requires.some.0).room
+unfolding proxy.out-Proxy denote.Hole.Carrier.out
+returns-in-Node-clause-room g t c = node-room c.args.n c.args.offers.now.room c.args.proxy.now c.in-Node.members c.args.ray.now _ _ c.requires.some (ap content_of c.in-Node.is) c.offer.ensures
 
 pub returns-after-loop-j-clause-descends : goal.returns-after-loop-j-clause-descends
 unfolding proxy.out-Proxy denote.Hole.Carrier.out
