@@ -20,7 +20,7 @@ keeps a b n q above h e = grind (arith, ints, mul-le-left q a b above h, e)
 keeps-not : (a b n q : ℤ) → pos 0 ≤ℤ q → a ≤ℤ b → int_le (a *ℤ q) n ≡ false → int_le (b *ℤ q) n ≡ false
 keeps-not a b n q above h e = grind (arith, ints, mul-le-left q a b above h, e)
 
-from-not : (b : Bool) → not b ≡ true → b ≡ false
+pub from-not : (b : Bool) → not b ≡ true → b ≡ false
 from-not true e = absurd (cc)
 from-not false e = refl
 

@@ -12,18 +12,15 @@ use Rattle.gx_voxel.specs.Proxy.{list_of}
 use Rattle.gx_along.specs.declared.line.Stretch.{Stretch}
 use Rattle.gx_along.specs.declared.runs.Seen.{Seen}
 use Rattle.gx_along.specs.Line.{time, near, is_left, is_entered, IsStretch, IsPart}
-use Rattle.gx_along.specs.Runs.{IsRising, HasRuns, is_run_before, is_before, low_at, high_at}
+use Rattle.gx_along.specs.Runs.{IsRising, HasRuns, is_before, low_at, high_at}
 use Rattle.gx_along.specs.Along.{IsExact, index_of, left_of, is_entered_at, part_at}
 use Rattle.gx_along.specs.Walked.{Walks, walked}
 use Rattle.std.proofs.lemmas.List.{get_or_append_left}
 use Rattle.std.proofs.Math.Seq.{get_or-append_seam}
 use Rattle.gx_voxel.proofs.Elements.{any-left, any-right}
+use Rattle.gx_along.proofs.Ahead.{before-up, before-down, ahead}
 use Rattle.gx_along.proofs.Stretches.{part-is-part}
 use Rattle.gx_along.proofs.Outside.{left-out, entered-out}
-
-from-not : (b : Bool) → not b ≡ true → b ≡ false
-from-not true e = absurd (cc)
-from-not false e = refl
 
 true-or : (b : Bool) → (b ≡ false → ⊥) → b ≡ true
 true-or true h = refl
@@ -41,14 +38,6 @@ entered-le a b q n false above h e = grind (arith, ints, mul-le-left q a b above
 entered-falls : (o d low high low' high' : ℤ) (t : RayParameter) → near o d low high ≤ℤ near o d low' high' → is_entered o d low' high' t ≡ true → is_entered o d low high t ≡ true
 unfolding is_entered
 entered-falls o d low high low' high' t h e = entered-le (near o d low high) (near o d low' high') (pos t.den) (t.num * unsigned_abs d) (unsigned_abs d == 0) (omega (arith, ints)) h e
-
-before-up : (o d low high : ℤ) (t : RayParameter) → int_lt d (pos 0) ≡ false → is_run_before o d low high t ≡ is_left o d low high t
-unfolding is_run_before
-before-up o d low high t e = ap (λ b. if b then not (is_left o d low high t) else is_left o d low high t) e
-
-before-down : (o d low high : ℤ) (t : RayParameter) → int_lt d (pos 0) ≡ true → is_run_before o d low high t ≡ not (is_left o d low high t)
-unfolding is_run_before
-before-down o d low high t e = ap (λ b. if b then not (is_left o d low high t) else is_left o d low high t) e
 
 all-push : {X : Type 0} (P : X → Type 0) (xs : List X) (x : X) → AllByRecursion P xs → P x → AllByRecursion P (xs ++ x ∷ [])
 all-push P [] x all one = (one, tt)
@@ -75,18 +64,7 @@ module _ (o d : ℤ) (h : Header) (s : Stretch) (seen : List Seen) (ok : IsStret
 
   -- the place of a run that is gone into
   good : (m : ℕ) → m < left_of d n w.start → (at m < n) × (is_left o d (low_at h (at m)) (high_at h (at m)) (time s.from) ≡ false)
-  good m less = go (int_lt d (pos 0)) refl
-    where
-      go : (b : Bool) → int_lt d (pos 0) ≡ b → (at m < n) × (is_left o d (low_at h (at m)) (high_at h (at m)) (time s.from) ≡ false)
-      go true e =
-          let i : at m ≡ w.start - 1 - m = index-down e m in
-          let l : m < w.start = omega (arith, less, left-down e) in
-          let small : at m < w.start = omega (arith, i, l) in
-          (omega (arith, small, w.bound), from-not (is_left o d (low_at h (at m)) (high_at h (at m)) (time s.from)) (sym (before-down o d (low_at h (at m)) (high_at h (at m)) (time s.from) e) ∙ w.first (at m) small))
-      go false e =
-          let i : at m ≡ w.start + m = index-up e m in
-          let small : at m < n = omega (arith, i, less, left-up e, w.bound) in
-          (small, sym (before-up o d (low_at h (at m)) (high_at h (at m)) (time s.from) e) ∙ w.rest (at m) (omega (arith, i)) small)
+  good m less = ahead o d h (time s.from) w.start w.bound w.first w.rest m less
 
   parts-of : (k : ℕ) → k ≤ w.steps → AllByRecursion (λ one. (one.index < n) × IsPart o d (low_at h one.index) (high_at h one.index) s one.part) (walked o d h s w.start k)
   parts-of zero less = tt

@@ -1,3 +1,4 @@
+pub mod Ahead
 pub mod Before
 pub mod Exact
 pub mod Halves

@@ -1,4 +1,4 @@
--- Private to this crate: the runs gone into along a ray, one after another.
+-- The runs gone into along a ray, one after another, and where that ends.
 use Rattle.std.specs.Prelude.{◌≡◌, ◌⊎◌, ◌≤◌, ◌<◌, ℕ, zero, suc, ℤ, true, false, List, [], ◌∷◌, ◌++◌, length}
 use Rattle.gx_voxel.specs.declared.proxy.Header.{Header}
 use Rattle.gx_voxel.specs.Proxy.{list_of}

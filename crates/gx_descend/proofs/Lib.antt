@@ -1,0 +1,5 @@
+mod Placed
+mod Reached
+mod Counted
+mod Gone
+mod Going

@@ -1,0 +1,6 @@
+//! The descent of a ray through a tree of headers: which members it offers, and what it reads.
+#![tactic(auto)]
+
+mod descent;
+
+pub use descent::descend;
