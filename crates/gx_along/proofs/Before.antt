@@ -14,7 +14,7 @@ read f [] i x h e = absurd (omega (arith, h))
 read f (y ∷ ys) zero x h e = ap f e
 read f (y ∷ ys) (suc i) x h e = read f ys i x (omega (arith, h)) e
 
-keeps : (a b n q : ℤ) → pos 0 ≤ℤ q → a ≤ℤ b → int_le (b *ℤ q) n ≡ true → int_le (a *ℤ q) n ≡ true
+pub keeps : (a b n q : ℤ) → pos 0 ≤ℤ q → a ≤ℤ b → int_le (b *ℤ q) n ≡ true → int_le (a *ℤ q) n ≡ true
 keeps a b n q above h e = grind (arith, ints, mul-le-left q a b above h, e)
 
 keeps-not : (a b n q : ℤ) → pos 0 ≤ℤ q → a ≤ℤ b → int_le (a *ℤ q) n ≡ false → int_le (b *ℤ q) n ≡ false

@@ -35,7 +35,7 @@ entered-le : (a b q : ℤ) (n : ℕ) (rest : Bool) → pos 0 ≤ℤ q → a ≤�
 entered-le a b q n true above h e = grind (arith, ints, h, e)
 entered-le a b q n false above h e = grind (arith, ints, mul-le-left q a b above h, e)
 
-entered-falls : (o d low high low' high' : ℤ) (t : RayParameter) → near o d low high ≤ℤ near o d low' high' → is_entered o d low' high' t ≡ true → is_entered o d low high t ≡ true
+pub entered-falls : (o d low high low' high' : ℤ) (t : RayParameter) → near o d low high ≤ℤ near o d low' high' → is_entered o d low' high' t ≡ true → is_entered o d low high t ≡ true
 unfolding is_entered
 entered-falls o d low high low' high' t h e = entered-le (near o d low high) (near o d low' high') (pos t.den) (t.num * unsigned_abs d) (unsigned_abs d == 0) (omega (arith, ints)) h e
 

@@ -38,7 +38,7 @@ use Rattle.gx_tree.specs.Fault.{IsTree}
 use Rattle.gx_check.specs.Verdicts.{placed_vertices}
 use Rattle.gx_frame.specs.Frames.{IsMet}
 use Rattle.gx_frame.proofs.Frames.{points_stay}
-use Rattle.gx_voxel.specs.Members.{IsProper}
+use Rattle.gx_boxes.specs.Boxes.{IsProper}
 use Rattle.gx_sealed.specs.Slabs.{IsInBox}
 use Rattle.gx_sealed.proofs.Proper.{apart_x, apart_y, apart_z}
 

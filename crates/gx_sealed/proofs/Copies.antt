@@ -1,12 +1,13 @@
 -- The copies of a replica: it is alone in its mother, and the copies go from slab to slab along the axis.
-use Rattle.std.proofs.Common.{◌≡◌, refl, ◌∙◌, ℕ, suc, ◌+◌, ◌-◌, ◌<◌, ◌≤◌, Bool, true, false, cond, ◌&&◌, ◌==◌, ℤ, pos, neg_ℤ, ◌+ℤ◌, ◌-ℤ◌, ◌*ℤ◌, ◌≤ℤ◌, ◌<ℤ◌, unsigned_abs, List, [], ◌∷◌, ◌++◌, append-nil, length, map, get_or, slice_get, Option, None, Some, All, sym, ap, subst, arith}
+use Rattle.std.proofs.Common.{◌≡◌, refl, ◌∙◌, ℕ, zero, suc, ◌+◌, ◌-◌, ◌<◌, ◌≤◌, Bool, true, false, cond, ◌&&◌, ◌==◌, ℤ, pos, neg_ℤ, ◌+ℤ◌, ◌-ℤ◌, ◌*ℤ◌, ◌≤ℤ◌, ◌<ℤ◌, unsigned_abs, List, [], ◌∷◌, ◌++◌, append-nil, length, map, get_or, slice_get, Option, None, Some, All, sym, ap, subst, arith}
 use Rattle.std.specs.Prelude.{int_lt, nat_lt, int_div, sum_by}
 use Rattle.std.specs.Int.{int_min, int_max}
 use Rattle.std.specs.List.{range_with_len}
 use Rattle.std.specs.Option.{option_or}
 use Rattle.std.proofs.lemmas.Bool.{and_parts, cond_both, ltb-false}
 use Rattle.std.proofs.lemmas.Bool.Decides.{Decides-int_eq}
-use Rattle.std.proofs.lemmas.Int.{ints, int_min_is, int_max_is, zero-*ℤ}
+use Rattle.std.proofs.Math.IntN.{zero-*ℤ}
+use Rattle.std.proofs.lemmas.Int.{ints, int_min_is, int_max_is}
 use Rattle.std.proofs.lemmas.List.Elements.{All-nil, All-cons, All-append, All-map, All-weaker}
 use Rattle.std.proofs.lemmas.List.FromFn.{get_or-map-range_with_len}
 use Rattle.std.proofs.lemmas.Option.{slice_get_within, slice_get-get_or, get_or_from_slice_get}
@@ -41,7 +42,7 @@ use Rattle.gx_tree.specs.Fault.{IsTree, halves, fill_fault, fault_of_placement, 
 use Rattle.gx_tree.proofs.Formed.{formed}
 use Rattle.gx_tree.proofs.Ordinals.{length-instances_in}
 use Rattle.gx_voxel.specs.Cut.{coordinate, interval_on}
-use Rattle.gx_voxel.specs.Members.{IsProper, reach}
+use Rattle.gx_boxes.specs.Boxes.{IsProper, reach}
 use Rattle.gx_sealed.specs.Cells.{extent_in, is_replica, AreReplicas}
 use Rattle.gx_sealed.proofs.Boxes.{fold_keeps}
 use Rattle.gx_sealed.proofs.Extents.{length-extents_in, extent_in-is, all_proper}
@@ -126,9 +127,9 @@ module _ (x y z : ℤ) (ax : pos 0 <ℤ x) (ay : pos 0 <ℤ y) (az : pos 0 <ℤ 
         (box_low part low high move x y z _ _ all_between from to, box_high part low high move x y z _ _ all_between from to)
 
   box_sides : (axis : ℕ) → axis < 3 → (coordinate axis box.low ≡ coordinate axis o -ℤ coordinate axis half) × (coordinate axis box.high ≡ coordinate axis o +ℤ coordinate axis half)
-  box_sides 0 _ = sides (λ v. v.x) (λ _ _. refl) (λ _ _. refl) (λ _ _. refl) x ax (λ v is. is.x_of) refl refl
-  box_sides 1 _ = sides (λ v. v.y) (λ _ _. refl) (λ _ _. refl) (λ _ _. refl) y ay (λ v is. is.y_of) refl refl
-  box_sides 2 _ = sides (λ v. v.z) (λ _ _. refl) (λ _ _. refl) (λ _ _. refl) z az (λ v is. is.z_of) refl refl
+  box_sides zero _ = sides (λ v. v.x) (λ _ _. refl) (λ _ _. refl) (λ _ _. refl) x ax (λ v is. is.x_of) refl refl
+  box_sides (suc zero) _ = sides (λ v. v.y) (λ _ _. refl) (λ _ _. refl) (λ _ _. refl) y ay (λ v is. is.y_of) refl refl
+  box_sides (suc (suc zero)) _ = sides (λ v. v.z) (λ _ _. refl) (λ _ _. refl) (λ _ _. refl) z az (λ v is. is.z_of) refl refl
   box_sides (suc (suc (suc n))) less = absurd (omega (arith, less))
 
 -- ---- a placement without a fault
@@ -198,9 +199,9 @@ cuboid_of (Extruded corners low high) half e = absurd (cc)
 cuboid_of (Tessellated facets) half e = absurd (cc)
 
 coordinate-along : (axis : ℕ) → axis < 3 → (at : ℤ) → coordinate axis (along axis at) ≡ at
-coordinate-along 0 less at = refl
-coordinate-along 1 less at = refl
-coordinate-along 2 less at = refl
+coordinate-along zero less at = refl
+coordinate-along (suc zero) less at = refl
+coordinate-along (suc (suc zero)) less at = refl
 coordinate-along (suc (suc (suc n))) less at = absurd (omega (arith, less))
 
 within-coordinate : (axis bound : ℕ) (v : V3) → IsWithin bound v → unsigned_abs (coordinate axis v) ≤ bound

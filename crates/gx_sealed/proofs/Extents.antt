@@ -24,7 +24,8 @@ use Rattle.gx_tree.specs.Fault.{IsTree}
 use Rattle.gx_check.specs.Verdicts.{placed_vertices}
 use Rattle.gx_frame.specs.Frames.{IsMet}
 use Rattle.gx_frame.proofs.Frames.{points_stay}
-use Rattle.gx_voxel.specs.Members.{IsProper, extent_at}
+use Rattle.gx_boxes.specs.Boxes.{IsProper}
+use Rattle.gx_voxel.specs.Members.{extent_at}
 use Rattle.gx_sealed.specs.declared.placed.Daughter.{Daughter}
 use Rattle.gx_sealed.specs.Placed.{daughter_of, daughters_of}
 use Rattle.gx_sealed.specs.Cells.{extents_in, extent_in, ordinals_in}

@@ -8,7 +8,8 @@ use Rattle.gx_tree.specs.declared.placement.Placement.TheVariants.{Replica}
 use Rattle.gx_tree.specs.Hierarchy.{Hierarchy, volume_at, instances}
 use Rattle.gx_check.specs.Verdicts.{placed_vertices}
 use Rattle.gx_voxel.specs.Cut.{interval_on}
-use Rattle.gx_voxel.specs.Members.{IsProper, extent_at, reach}
+use Rattle.gx_boxes.specs.Boxes.{IsProper, reach}
+use Rattle.gx_voxel.specs.Members.{extent_at}
 use Rattle.gx_voxel.specs.Proxy.{StandsFor}
 use Rattle.gx_voxel.specs.declared.proxy.Proxy.{Proxy}
 use Rattle.gx_sealed.specs.declared.cells.Cells.{Cells}

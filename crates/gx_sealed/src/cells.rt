@@ -1,8 +1,10 @@
-ghost use Rattle.std.specs.Prelude.{◌≡◌, ◌<◌, map, length, IfOk};
-ghost use Rattle.gx_tree.specs.Hierarchy.{instances};
+ghost use Rattle.std.specs.Prelude.{◌≡◌, ◌<◌, false, map, length, slice_get, Some, IfOk, MatchOption};
+ghost use Rattle.std.specs.Option.{ForSome};
+ghost use Rattle.gx_tree.specs.declared.placement.Placement.{Placement};
+ghost use Rattle.gx_tree.specs.declared.placement.Placement.TheVariants.{Replica};
 ghost use Rattle.gx_voxel.specs.Cut.{coordinate};
 ghost use Rattle.gx_sealed.specs.Placed.{daughters_of, all_daughters};
-ghost use Rattle.gx_sealed.specs.Cells.{IsCells, AreCells, extents_in};
+ghost use Rattle.gx_sealed.specs.Cells.{IsCells, AreCells, is_replica};
 
 use crate::placed::Daughter;
 use gx_num::{Extent, NoMemory, V3};
@@ -51,9 +53,9 @@ fn cells_of(
     requires daughters { daughters.now ≡ daughters_of tree.now v }
     ensures { IfOk result (IsCells tree.now v) }
 {
-    match tree.placements(v).first() {
+    match replica(tree.placements(v)) {
         Some(
-            &Placement::Replica {
+            Copies {
                 axis,
                 count,
                 width,
@@ -61,12 +63,51 @@ fn cells_of(
             },
         ) => Ok(Cells::Replicas {
             axis,
-            low: on_axis(axis, daughters[0].extent.low),
+            low: lowest(axis, daughters),
             width,
             count,
         }),
-        _ => Ok(Cells::Tree(build(alloc, &extents(alloc, daughters)?)?)),
+        None => Ok(Cells::Tree(build(alloc, &extents(alloc, daughters)?)?)),
     }
+}
+
+// A placement of copies that fill a mother.
+#[derive(Clone, Copy)]
+struct Copies {
+    volume: u32,
+    axis: u8,
+    count: u32,
+    width: i64,
+}
+
+// The first placement, where it is one.
+fn replica(placements: &[Placement]) -> Option<Copies>
+    ensures { MatchOption result ((p : Placement) → slice_get placements.now 0 ≡ Some p → is_replica p ≡ false) (λ r. slice_get placements.now 0 ≡ Some (Replica r.volume r.axis r.count r.width)) }
+{
+    match placements.first() {
+        Some(
+            &Placement::Replica {
+                volume,
+                axis,
+                count,
+                width,
+            },
+        ) => Some(Copies {
+            volume,
+            axis,
+            count,
+            width,
+        }),
+        _ => None,
+    }
+}
+
+// Where the first of the daughters begins on an axis.
+fn lowest(axis: u8, daughters: &[Daughter]) -> i64
+    requires { 0 < length daughters.now }
+    ensures { ForSome (slice_get daughters.now 0) (λ d. result ≡ coordinate axis d.extent.low) }
+{
+    on_axis(axis, daughters[0].extent.low)
 }
 
 fn extents(alloc: Global, daughters: &[Daughter]) -> Result<Vec<Extent>, NoMemory>
