@@ -96,10 +96,10 @@ module _ (at : ℕ → Extent) (p : Vec4) (above : pos 0 <ℤ p.w) (k : ℕ) (in
   abbrev Has : Cell → Type 0
   Has c = IsInBox p c.box × IsOneOf k c.members
 
-  abbrev InRun : ℕ → SliceRun → Type 0
+  abbrev pub InRun : ℕ → SliceRun → Type 0
   InRun axis run = IsInSide p (side_of axis run) × IsOneOf k run.members
 
-  in-cut : (ks axes : List ℕ) → IsOneOf k ks → (cut : Cut) → cut_of at ks axes ≡ Some cut → AnyByRecursion (InRun cut.axis) cut.runs
+  pub in-cut : (ks axes : List ℕ) → IsOneOf k ks → (cut : Cut) → cut_of at ks axes ≡ Some cut → AnyByRecursion (InRun cut.axis) cut.runs
   in-cut ks axes one cut e =
       cut-is at ks (λ c. AnyByRecursion (InRun c.axis) c.runs) axes
       (λ axis _. let b = between axis (at k) p inside in
