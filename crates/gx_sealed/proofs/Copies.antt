@@ -1,17 +1,18 @@
 -- The copies of a replica: it is alone in its mother, and the copies go from slab to slab along the axis.
-use Rattle.std.proofs.Common.{◌≡◌, refl, ◌∙◌, ℕ, zero, suc, ◌+◌, ◌-◌, ◌<◌, ◌≤◌, Bool, true, false, cond, ◌&&◌, ◌==◌, ℤ, pos, neg_ℤ, ◌+ℤ◌, ◌-ℤ◌, ◌*ℤ◌, ◌≤ℤ◌, ◌<ℤ◌, unsigned_abs, List, [], ◌∷◌, ◌++◌, append-nil, length, map, get_or, slice_get, Option, None, Some, All, sym, ap, subst, arith}
-use Rattle.std.specs.Prelude.{int_lt, nat_lt, int_div, sum_by}
+use Rattle.std.proofs.Common.{◌≡◌, refl, ◌∙◌, ℕ, zero, suc, ◌+◌, ◌-◌, ◌*◌, ◌<◌, ◌≤◌, Bool, true, false, cond, ◌&&◌, ◌==◌, ℤ, pos, neg_ℤ, ◌+ℤ◌, ◌-ℤ◌, ◌*ℤ◌, ◌≤ℤ◌, ◌<ℤ◌, unsigned_abs, List, [], ◌∷◌, append-nil, length, map, get_or, slice_get, Option, None, Some, All, sym, ap, subst, arith}
+use Rattle.std.specs.Prelude.{int_lt, nat_lt, int_div, find, option_map, Result, Ok, Err}
 use Rattle.std.specs.Int.{int_min, int_max}
 use Rattle.std.specs.List.{range_with_len}
-use Rattle.std.specs.Option.{option_or}
+use Rattle.std.specs.Option.{ForSome, option_or}
 use Rattle.std.proofs.lemmas.Bool.{and_parts, cond_both, ltb-false}
 use Rattle.std.proofs.lemmas.Bool.Decides.{Decides-int_eq}
 use Rattle.std.proofs.Math.IntN.{zero-*ℤ}
 use Rattle.std.proofs.lemmas.Int.{ints, int_min_is, int_max_is}
 use Rattle.std.proofs.lemmas.List.Elements.{All-nil, All-cons, All-append, All-map, All-weaker}
-use Rattle.std.proofs.lemmas.List.FromFn.{get_or-map-range_with_len}
+use Rattle.std.proofs.lemmas.List.FromFn.{get_or-map-range_with_len, length-map-range_with_len}
 use Rattle.std.proofs.lemmas.Option.{slice_get_within, slice_get-get_or, get_or_from_slice_get}
 use Rattle.gx_num.specs.declared.vector.V3.{V3}
+use Rattle.gx_num.specs.declared.vector.TheConstants.{M}
 use Rattle.gx_num.specs.declared.extent.Extent.{Extent}
 use Rattle.gx_num.specs.Vector.{IsWithin, sum_of}
 use Rattle.gx_algebra.proofs.Lists.{All-four, All-from_map}
@@ -25,6 +26,7 @@ use Rattle.gx_convex.proofs.Extents.{low_below, high_above}
 use Rattle.gx_rotation.specs.Matrix.{identity, image, transpose}
 use Rattle.gx_rotation.specs.Place.{placed_point}
 use Rattle.gx_rotation.proofs.Algebra.{image-identity}
+use Rattle.gx_form.specs.First.{◌>>=◌}
 use Rattle.gx_shapes.specs.declared.figure.Figure.{Figure}
 use Rattle.gx_shapes.specs.declared.figure.Figure.TheVariants.{Cuboid, Trd, Tet, Extruded, Tessellated}
 use Rattle.gx_shapes.specs.Solid.{vertices_of}
@@ -34,18 +36,19 @@ use Rattle.gx_shapes.proofs.Given.{IsGiven, given}
 use Rattle.gx_replica.specs.Replica.{along, is_long, fills_along, is_alike_across, fills}
 use Rattle.gx_tree.specs.declared.placement.Placement.{Placement}
 use Rattle.gx_tree.specs.declared.placement.Placement.TheVariants.{Single, Replica, Linear, Square}
-use Rattle.gx_tree.specs.declared.fault.TreeFault.TheVariants.{ReplicaMixed, ReplicaFill}
-use Rattle.gx_tree.specs.Volume.{Volume, copies_of, offset_of, instance_of, instances_of, instances_in}
-use Rattle.gx_tree.specs.Hierarchy.{Hierarchy, volume_at, instances}
+use Rattle.gx_tree.specs.declared.fault.TreeFault.{TreeFault}
+use Rattle.gx_tree.specs.declared.fault.TreeFault.TheVariants.{Cycle, TooDeep, ReplicaMixed, ReplicaFill}
+use Rattle.gx_tree.specs.Volume.{Volume, offset_of, instance_of, instances_of, instances_in}
+use Rattle.gx_tree.specs.Hierarchy.{Hierarchy, volume_at, instances, numbers}
 use Rattle.gx_tree.specs.Limits.{IsPlaceable}
-use Rattle.gx_tree.specs.Fault.{IsTree, halves, fill_fault, fault_of_placement, first_numbered, replica_fault_in, replica_fault}
-use Rattle.gx_tree.proofs.Formed.{formed}
-use Rattle.gx_tree.proofs.Ordinals.{length-instances_in}
-use Rattle.gx_voxel.specs.Cut.{coordinate, interval_on}
+use Rattle.gx_tree.specs.Fault.{IsTree, halves, fill_fault, fault_of_placement, first_numbered, replica_fault_in, replica_fault, unless, only_world, is_in_itself, is_too_deep, hierarchy_of}
+use Rattle.gx_voxel.specs.Cut.{Interval, coordinate, interval_on}
 use Rattle.gx_voxel.specs.Members.{IsProper, reach}
 use Rattle.gx_sealed.specs.Cells.{extent_in, is_replica, AreReplicas}
+use Rattle.gx_sealed.specs.Placed.{daughter_of, daughters_of}
 use Rattle.gx_sealed.proofs.Boxes.{fold_keeps}
 use Rattle.gx_sealed.proofs.Extents.{length-extents_in, extent_in-is, all_proper}
+use Rattle.gx_sealed.proofs.Tables.{placed_at}
 
 -- ---- a box, moved: from its centre less a half-length to its centre and a half-length
 module _ (part : V3 → ℤ) (low : (a b : V3) → part (lower a b) ≡ int_min (part a) (part b)) (high : (a b : V3) → part (upper a b) ≡ int_max (part a) (part b)) where
@@ -190,6 +193,23 @@ all_sound volumes e =
     (λ mother h. All-weaker (λ p. (k : ℕ) × (fault_of_placement volumes h.0 mother k p ≡ None)) (IsSound volumes mother) (λ p g. sound volumes h.0 mother g.0 p g.1) mother.placements (none_numbered (fault_of_placement volumes h.0 mother) 0 mother.placements h.1))
     volumes (none_numbered (replica_fault_in volumes) 0 volumes e)
 
+-- ---- the steps of the definition of a hierarchy
+unless-ok : {A : Type 0} (o : Option TreeFault) (next : Unit {0} → Result A TreeFault) (a : A) → (unless o >>= next) ≡ Ok a → (o ≡ None) × (next tt ≡ Ok a)
+unless-ok None next a e = (refl, e)
+unless-ok (Some fault) next a e = absurd (cc)
+
+then-ok : {A B : Type 0} (r : Result A TreeFault) (next : A → Result B TreeFault) (b : B) → (r >>= next) ≡ Ok b → (a : A) × (next a ≡ Ok b)
+then-ok (Ok a) next b e = (a, e)
+then-ok (Err fault) next b e = absurd (cc)
+
+filled : (volumes : List Volume) (h : Hierarchy) → hierarchy_of volumes ≡ Ok h → replica_fault volumes ≡ None
+unfolding hierarchy_of
+filled volumes h e =
+    let (_, acyclic) = unless-ok (option_map Cycle (find (is_in_itself volumes) (numbers volumes))) _ h e in
+    let (world, is) = then-ok (only_world volumes) _ h acyclic in
+    let (_, shallow) = unless-ok (option_map TooDeep (find (is_too_deep volumes world) (numbers volumes))) _ h is in
+    (unless-ok (replica_fault volumes) _ h shallow).0
+
 -- ---- coordinates
 cuboid_of : (f : Figure) (half : V3) → halves f ≡ Some half → f ≡ Cuboid half.x half.y half.z
 cuboid_of (Cuboid x y z) half e = let same : record { x = x; y = y; z = z } ≡ half = cc in ap (λ (v : V3). Cuboid v.x v.y v.z) same
@@ -221,7 +241,10 @@ one_more k w = ap (λ (n : ℤ). n *ℤ w) (sum k) ∙ next (pos k) w
     next : (k w : ℤ) → (k +ℤ pos 1) *ℤ w ≡ k *ℤ w +ℤ w
     next = ring (number ∷ number ∷ []) (λ k w. (k ⊕ num (pos 1)) ⊗ w ≣ k ⊗ w ⊕ w) tt
 
-interval_by : {a b c d : ℤ} → a ≡ c → b ≡ d → record { low = a; high = b } ≡ record { low = c; high = d }
+abbrev interval : ℤ → ℤ → Interval
+interval low high = record { low = low; high = high }
+
+interval_by : {a b c d : ℤ} → a ≡ c → b ≡ d → interval a b ≡ interval c d
 interval_by e f = λ i. record { low = e i; high = f i }
 
 -- ---- the volumes of a hierarchy
@@ -230,7 +253,7 @@ module _ (h : Hierarchy) (tree : IsTree h) (v : ℕ) (below : v < length h.volum
   mother = volume_at h.volumes v
 
   all_sound_in : All (IsSound h.volumes mother) mother.placements
-  all_sound_in = all_sound h.volumes (formed h.volumes h tree.formed).filled v _ below
+  all_sound_in = all_sound h.volumes (filled h.volumes h tree.formed) v _ below
 
   -- where the first isn't a replica, none is
   pub none_replica : ((d : Placement) → 0 < length mother.placements → is_replica (get_or mother.placements 0 d) ≡ false) → All (λ p. is_replica p ≡ false) mother.placements
@@ -269,12 +292,12 @@ module _ (h : Hierarchy) (tree : IsTree h) (v : ℕ) (below : v < length h.volum
         single (p ∷ []) some few e = ap (λ q. q ∷ []) e
         single (p ∷ q ∷ ps) some few e = absurd (omega (arith, few))
 
-    all : length (instances h v) ≡ count
-    all = omega (arith, length-instances_in mother.placements, ap (sum_by copies_of) alone)
-
     instances_are : instances h v ≡ map (instance_of replica) (range_with_len 0 count)
     unfolding instances_of
     instances_are = ap instances_in alone ∙ append-nil (map (instance_of replica) (range_with_len 0 count))
+
+    all : length (instances h v) ≡ count
+    all = ap length instances_are ∙ length-map-range_with_len (instance_of replica) 0 count
 
     pub instance_is : (k : ℕ) → k < count → slice_get (instances h v) k ≡ Some (instance_of replica k)
     instance_is k less =
@@ -282,30 +305,42 @@ module _ (h : Hierarchy) (tree : IsTree h) (v : ℕ) (below : v < length h.volum
         ∙ ap (λ l. Some (get_or l k (instance_of replica k))) instances_are
         ∙ ap Some (get_or-map-range_with_len (instance_of replica) 0 count k k (instance_of replica k) less (omega arith))
 
-    abbrev half : V3
-    half = known.1.half
+    abbrev cell : V3
+    cell = known.1.half
 
-    cuboid : (volume_at h.volumes volume).solid ≡ Cuboid half.x half.y half.z
-    cuboid = cuboid_of _ half known.1.is
+    cuboid : (volume_at h.volumes volume).solid ≡ Cuboid cell.x cell.y cell.z
+    cuboid = cuboid_of _ cell known.1.is
 
-    halves_are : IsGiven (Cuboid half.x half.y half.z)
+    halves_are : IsGiven (Cuboid cell.x cell.y cell.z)
     halves_are = subst IsGiven cuboid (given _ (tree.solids volume _ placeable.volume).values)
 
     abbrev offset : ℕ → V3
     offset k = offset_of replica k
 
-    sides_in : (k : ℕ) → k < count → (coordinate axis (extent_in h v k).low ≡ coordinate axis (offset k) -ℤ coordinate axis half) × (coordinate axis (extent_in h v k).high ≡ coordinate axis (offset k) +ℤ coordinate axis half)
+    sides_in : (k : ℕ) → k < count → (coordinate axis (extent_in h v k).low ≡ coordinate axis (offset k) -ℤ coordinate axis cell) × (coordinate axis (extent_in h v k).high ≡ coordinate axis (offset k) +ℤ coordinate axis cell)
     sides_in k less =
-        subst (λ (e : Extent). (coordinate axis e.low ≡ coordinate axis (offset k) -ℤ coordinate axis half) × (coordinate axis e.high ≡ coordinate axis (offset k) +ℤ coordinate axis half))
+        subst (λ (e : Extent). (coordinate axis e.low ≡ coordinate axis (offset k) -ℤ coordinate axis cell) × (coordinate axis e.high ≡ coordinate axis (offset k) +ℤ coordinate axis cell))
         (ap (λ (f : Figure). extent_of (map (placed_point identity (offset k)) (distinct (vertices_of f)))) (sym cuboid) ∙ sym (extent_in-is h v k (instance_of replica k) (instance_is k less)))
-        (box_sides half.x half.y half.z halves_are.0.above halves_are.1.above halves_are.2.above (offset k) axis placeable.range.copies.direction)
+        (box_sides cell.x cell.y cell.z halves_are.0.above halves_are.1.above halves_are.2.above (offset k) axis placeable.range.copies.direction)
+
+    pub near_width : unsigned_abs width ≤ 2 * unsigned_abs M
+    near_width = placeable.range.near_width
 
     -- copy after copy, from the lower face of the first
-    abbrev lowest : ℤ
+    abbrev pub lowest : ℤ
     lowest = coordinate axis (extent_in h v 0).low
 
     some : 0 < count
     some = placeable.range.copies.some
+
+    pub some_daughter : 0 < length (instances h v)
+    some_daughter = omega (arith, all, some)
+
+    -- as the code finds it
+    pub lowest_is : (at : ℤ) → ForSome (slice_get (daughters_of h v) 0) (λ d. at ≡ coordinate axis d.extent.low) → at ≡ lowest
+    lowest_is at is =
+        let first = instance_is 0 some in
+        is (daughter_of h (instance_of replica 0)) (placed_at h v 0 (instance_of replica 0) _ first refl) ∙ ap (λ (e : Extent). coordinate axis e.low) (sym (extent_in-is h v 0 (instance_of replica 0) first))
 
     low_at : (k : ℕ) → k < count → coordinate axis (extent_in h v k).low ≡ lowest +ℤ pos k *ℤ width
     low_at k less =

@@ -1,7 +1,6 @@
 -- The extents of daughters, by their ordinals: they are proper, and points inside a daughter are strictly within hers.
-use Rattle.std.proofs.Common.{◌≡◌, ◌∙◌, ℕ, zero, suc, ◌*◌, ◌<◌, true, ℤ, pos, ◌<ℤ◌, List, length, map, get_or, slice_get, Some, All, sym, ap, subst, arith}
+use Rattle.std.proofs.Common.{◌≡◌, ◌∙◌, ℕ, zero, suc, ◌*◌, ◌<◌, true, pos, ◌<ℤ◌, length, map, get_or, slice_get, Some, All, sym, ap, subst, arith}
 use Rattle.std.specs.Option.{option_map}
-use Rattle.std.specs.List.{range_with_len}
 use Rattle.std.proofs.lemmas.Int.{ints}
 use Rattle.std.proofs.lemmas.List.{length-map}
 use Rattle.std.proofs.lemmas.List.Elements.{All-map, All-weaker}
@@ -24,7 +23,7 @@ use Rattle.gx_tree.specs.Fault.{IsTree}
 use Rattle.gx_check.specs.Verdicts.{placed_vertices}
 use Rattle.gx_frame.specs.Frames.{IsMet}
 use Rattle.gx_frame.proofs.Frames.{points_stay}
-use Rattle.gx_voxel.specs.Members.{IsProper, extent_at}
+use Rattle.gx_voxel.specs.Members.{IsProper}
 use Rattle.gx_sealed.specs.declared.placed.Daughter.{Daughter}
 use Rattle.gx_sealed.specs.Placed.{daughter_of, daughters_of}
 use Rattle.gx_sealed.specs.Cells.{extents_in, extent_in, ordinals_in}
