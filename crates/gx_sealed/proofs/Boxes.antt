@@ -10,7 +10,7 @@ use Rattle.gx_num.specs.declared.ray.Ray.{Ray}
 use Rattle.gx_num.specs.Vector.{IsWithin}
 use Rattle.gx_num.specs.Space.{is_inside}
 use Rattle.gx_num.specs.Vector4.{Vec4}
-use Rattle.gx_num.specs.Ray.{RayParameter, IsPositive, point_of_ray}
+use Rattle.gx_num.specs.Ray.{point_of_ray}
 use Rattle.gx_plane.specs.Plane.{reach}
 use Rattle.gx_convex.specs.Points.{distinct, are_coplanar}
 use Rattle.gx_convex.specs.Extent.{lower, upper, extent_of}
@@ -38,8 +38,8 @@ use Rattle.gx_tree.specs.Fault.{IsTree}
 use Rattle.gx_check.specs.Verdicts.{placed_vertices}
 use Rattle.gx_frame.specs.Frames.{IsMet}
 use Rattle.gx_frame.proofs.Frames.{points_stay}
+use Rattle.gx_boxes.specs.Boxes.{IsWithinOpen, IsMet as IsBoxMet}
 use Rattle.gx_voxel.specs.Members.{IsProper}
-use Rattle.gx_sealed.specs.Slabs.{IsInBox}
 use Rattle.gx_sealed.proofs.Proper.{apart_x, apart_y, apart_z}
 
 -- ---- vertices by themselves
@@ -53,7 +53,7 @@ module _ (k : ℕ) (below : k < 24) (t : V3) (vertices : List V3) (solid : are_c
   placed_apart : are_coplanar (map point vertices) ≡ false
   placed_apart = are_coplanar-map point (placed_face (matrix_of k) t) (IsMotion-placed (matrix_of k) (IsTurn-matrix_of k below) t) vertices ∙ solid
 
-  inside_box : (p : Vec4) → pos 0 <ℤ p.w → is_inside (faces_of vertices) (local_point (matrix_of k) t p) ≡ true → IsInBox (extent_of (map point vertices)) p
+  inside_box : (p : Vec4) → pos 0 <ℤ p.w → is_inside (faces_of vertices) (local_point (matrix_of k) t p) ≡ true → IsWithinOpen (extent_of (map point vertices)) p
   inside_box p positive inside =
       let placed = placed_solids k below t (faces_of vertices) vertices solid (own_hull vertices solid) in
       let within = (faces_are_the_solid (faces_of (map point vertices)) (map point vertices) placed_apart (own_hull (map point vertices) placed_apart)).extent p positive (placed.same_inside p positive ∙ inside) in
@@ -116,14 +116,14 @@ module _ (h : Hierarchy) (tree : IsTree h) (i : Instance) (is : IsInstance h i) 
         z = apart_z (placed_vertices h i) solid_placed;
       }
 
-  pub in_extent : (p : Vec4) → pos 0 <ℤ p.w → is_inside (solid_of figure) (local_of i p) ≡ true → IsInBox (extent_of (placed_vertices h i)) p
+  pub in_extent : (p : Vec4) → pos 0 <ℤ p.w → is_inside (solid_of figure) (local_of i p) ≡ true → IsWithinOpen (extent_of (placed_vertices h i)) p
   in_extent p positive inside =
       let vertices = distinct (vertices_of figure) in
-      subst (λ (m : Matrix). is_inside (faces_of vertices) (local_point m i.offset p) ≡ true → IsInBox (extent_of (map (placed_point m i.offset) vertices)) p) (sym is.rotation.same)
+      subst (λ (m : Matrix). is_inside (faces_of vertices) (local_point m i.offset p) ≡ true → IsWithinOpen (extent_of (map (placed_point m i.offset) vertices)) p) (sym is.rotation.same)
       (inside_box is.rotation.index is.rotation.below i.offset vertices (whole_hull figure solid).0 p positive)
       (sym ((faces_are_the_solid_of figure solid).same_inside (local_of i p) positive) ∙ inside)
 
   -- a ray that is nowhere in the extent doesn't meet her
-  pub not_met : (ray : Ray) → ((t : RayParameter) → IsPositive t → IsInBox (extent_of (placed_vertices h i)) (point_of_ray ray t) → ⊥) → IsMet h i ray None
+  pub not_met : (ray : Ray) → (IsBoxMet (extent_of (placed_vertices h i)) ray → ⊥) → IsMet h i ray None
   not_met ray none = λ t positive. false_from_ne_true _ (λ inside.
-      none t positive (in_extent (point_of_ray ray t) (omega (arith, ints, positive.1)) (ap (is_inside (solid_of figure)) (points_stay i ray t) ∙ inside)))
+      none (t, positive, in_extent (point_of_ray ray t) (omega (arith, ints, positive.1)) (ap (is_inside (solid_of figure)) (points_stay i ray t) ∙ inside)))

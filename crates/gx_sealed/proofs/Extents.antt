@@ -1,5 +1,5 @@
 -- The extents of daughters, by their ordinals: they are proper, and points inside a daughter are strictly within hers.
-use Rattle.std.proofs.Common.{◌≡◌, ◌∙◌, ℕ, zero, suc, ◌*◌, ◌<◌, true, pos, ◌<ℤ◌, length, map, get_or, slice_get, Some, All, sym, ap, subst, arith}
+use Rattle.std.proofs.Common.{◌≡◌, ◌∙◌, ℕ, ◌<◌, true, pos, ◌<ℤ◌, length, map, get_or, slice_get, Some, All, sym, ap, subst, arith}
 use Rattle.std.specs.Option.{option_map}
 use Rattle.std.proofs.lemmas.Int.{ints}
 use Rattle.std.proofs.lemmas.List.{length-map}
@@ -11,6 +11,7 @@ use Rattle.gx_num.specs.declared.extent.Extent.{Extent}
 use Rattle.gx_num.specs.declared.ray.Ray.{Ray}
 use Rattle.gx_num.specs.Space.{is_inside}
 use Rattle.gx_num.specs.Vector4.{Vec4}
+use Rattle.gx_num.proofs.Order.{above_positive}
 use Rattle.gx_num.specs.Ray.{RayParameter, IsBelow, point_of_ray}
 use Rattle.gx_fraction.specs.Fraction.{parameter_of}
 use Rattle.gx_convex.specs.Extent.{extent_of}
@@ -23,16 +24,12 @@ use Rattle.gx_tree.specs.Fault.{IsTree}
 use Rattle.gx_check.specs.Verdicts.{placed_vertices}
 use Rattle.gx_frame.specs.Frames.{IsMet}
 use Rattle.gx_frame.proofs.Frames.{points_stay}
+use Rattle.gx_boxes.specs.Boxes.{IsWithinOpen}
 use Rattle.gx_voxel.specs.Members.{IsProper}
 use Rattle.gx_sealed.specs.declared.placed.Daughter.{Daughter}
 use Rattle.gx_sealed.specs.Placed.{daughter_of, daughters_of}
 use Rattle.gx_sealed.specs.Cells.{extents_in, extent_in, ordinals_in}
-use Rattle.gx_sealed.specs.Slabs.{IsInBox}
 use Rattle.gx_sealed.proofs.Boxes.{proper, in_extent}
-
-above_zero : (n a b : ℕ) → a < n * b → 0 < n
-above_zero zero a b less = absurd (omega (arith, less))
-above_zero (suc n) a b less = omega arith
 
 pub length-extents_in : (h : Hierarchy) (v : ℕ) → length (extents_in h v) ≡ length (instances h v)
 unfolding extents_in
@@ -66,11 +63,11 @@ module _ (h : Hierarchy) (tree : IsTree h) (v : ℕ) where
     is_instance = subst (IsInstance h) (get_or_from_slice_get (instances h v) k i i at) (tree.placed v k i (slice_get_within (instances h v) k i at))
 
     -- a point inside the daughter
-    pub inside_extent : (p : Vec4) → pos 0 <ℤ p.w → is_inside (solid_of (volume_at h.volumes i.volume).solid) (local_of i p) ≡ true → IsInBox (extent_in h v k) p
-    inside_extent p positive inside = subst (λ (e : Extent). IsInBox e p) (sym (extent_in-is h v k i at)) (in_extent h tree i is_instance p positive inside)
+    pub inside_extent : (p : Vec4) → pos 0 <ℤ p.w → is_inside (solid_of (volume_at h.volumes i.volume).solid) (local_of i p) ≡ true → IsWithinOpen (extent_in h v k) p
+    inside_extent p positive inside = subst (λ (e : Extent). IsWithinOpen e p) (sym (extent_in-is h v k i at)) (in_extent h tree i is_instance p positive inside)
 
     -- and each point of a ray between the ends of the part that is inside her
-    pub met_extent : (ray : Ray) (span : Span) → IsMet h i ray (Some span) → (t : RayParameter) → 0 < t.den → IsBelow (parameter_of span.from) t → IsBelow t (parameter_of span.to) → IsInBox (extent_in h v k) (point_of_ray ray t)
+    pub met_extent : (ray : Ray) (span : Span) → IsMet h i ray (Some span) → (t : RayParameter) → 0 < t.den → IsBelow (parameter_of span.from) t → IsBelow t (parameter_of span.to) → IsWithinOpen (extent_in h v k) (point_of_ray ray t)
     met_extent ray span met t positive after before =
         inside_extent (point_of_ray ray t) (omega (arith, ints, positive))
-        (ap (is_inside (solid_of (volume_at h.volumes i.volume).solid)) (points_stay i ray t) ∙ (met.inside t (above_zero t.num _ _ after, positive)).1 (after, before))
+        (ap (is_inside (solid_of (volume_at h.volumes i.volume).solid)) (points_stay i ray t) ∙ (met.inside t (above_positive (parameter_of span.from) t after, positive)).1 (after, before))
