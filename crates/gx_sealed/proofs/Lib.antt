@@ -3,7 +3,6 @@ pub mod Copies
 pub mod Extents
 pub mod Most
 pub mod Proper
-pub mod Slabs
 pub mod Solids
 pub mod Tables
 pub mod Turned

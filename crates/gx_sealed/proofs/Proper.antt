@@ -1,5 +1,5 @@
 -- The extent of points that aren't coplanar isn't empty on any axis.
-use Rattle.std.proofs.Common.{◌≡◌, refl, false, ℤ, pos, ◌-ℤ◌, ◌<ℤ◌, List, [], ◌∷◌, get_or, ap, ◌∙◌, arith}
+use Rattle.std.proofs.Common.{◌≡◌, refl, false, ℤ, pos, ◌-ℤ◌, ◌<ℤ◌, List, [], ◌∷◌, get_or, ap, arith}
 use Rattle.std.specs.Int.{int_min, int_max}
 use Rattle.std.proofs.lemmas.Int.{ints, by_lt_z}
 use Rattle.std.proofs.lemmas.List.Elements.{All-map}

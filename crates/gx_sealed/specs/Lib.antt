@@ -1,4 +1,3 @@
 pub mod Cells
 pub mod Placed
 pub mod Sealed
-pub mod Slabs

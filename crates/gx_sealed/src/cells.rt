@@ -53,6 +53,8 @@ fn cells_of(
     requires daughters { daughters.now ≡ daughters_of tree.now v }
     ensures { IfOk result (IsCells tree.now v) }
 {
+    // How few daughters each volume has is known from here on.
+    let _ = tree.instances(v);
     match replica(tree.placements(v)) {
         Some(
             Copies {

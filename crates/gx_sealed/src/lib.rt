@@ -4,10 +4,8 @@
 mod cells;
 mod enter;
 mod error;
-mod misses;
 mod placed;
 mod sealed;
-mod slab;
 mod solid;
 #[cfg(test)]
 mod tests;

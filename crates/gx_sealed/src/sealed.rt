@@ -13,10 +13,10 @@ ghost use Rattle.gx_sealed.specs.Sealed.{IsSealed, IsSealCause, IsMostDaughters,
 
 use crate::cells::all_cells;
 use crate::enter::local_ray;
-use crate::misses::misses;
 use crate::placed::{Daughter, all_daughters};
 use crate::solid::span_in;
 use crate::{Cells, SealError};
+use gx_boxes::misses;
 use gx_check::first_refuted;
 use gx_clip::Span;
 use gx_num::Ray;

@@ -3,14 +3,13 @@ use Rattle.std.proofs.lemmas.Option.{same_Some}
 use Rattle.gx_num.specs.declared.vector.TheConstants.{M}
 use Rattle.gx_num.specs.declared.extent.Extent.{Extent}
 use Rattle.gx_num.specs.Vector.{IsWithin}
-use Rattle.gx_num.specs.Ray.{RayParameter, IsPositive, point_of_ray}
 use Rattle.gx_plane.specs.Plane.{reach}
 use Rattle.gx_convex.specs.Extent.{extent_of}
 use Rattle.gx_place.proofs.Sizes.{IsWithin-larger}
 use Rattle.gx_tree.specs.declared.instance.Instance.{Instance}
 use Rattle.gx_check.specs.Verdicts.{placed_vertices}
 use Rattle.gx_frame.specs.Frames.{IsMet}
-use Rattle.gx_sealed.specs.Slabs.{IsInBox}
+use Rattle.gx_boxes.specs.Boxes.{IsMet as IsBoxMet}
 use Rattle.gx_sealed.specs.declared.placed.Daughter.{Daughter}
 use Rattle.gx_sealed.proofs.Boxes.{near_extent, not_met}
 use Rattle.gx_sealed.proofs.sealed.Sealed.clip.Goals as goal
@@ -33,7 +32,7 @@ returns-then-misses-clause-met g c = λ i at.
     let h = c.args.self.now in
     let own = c.daughter.result.now.instance in
     let daughter = c.daughter.ensures.daughter in
-    let none = subst (λ (e : Extent). (t : RayParameter) → IsPositive t → IsInBox e (point_of_ray c.args.ray.now t) → ⊥) (extent_is g (goal.at.returns-then-misses-clause-met g c).After-daughter) (c.misses.ensures c.if-misses.true) in
+    let none = subst (λ (e : Extent). IsBoxMet e c.args.ray.now → ⊥) (extent_is g (goal.at.returns-then-misses-clause-met g c).After-daughter) (c.misses.ensures c.if-misses.true) in
     subst (λ (j : Instance). IsMet h j c.args.ray.now None) (same_Some own i (sym daughter.at ∙ at)) (not_met h c.daughter.ensures.kept.tree own daughter.instance c.args.ray.now none)
 
 pub span_in-requires-clause-origin : goal.span_in-requires-clause-origin
