@@ -29,7 +29,7 @@ fn time_of(fraction: Frac) -> Time
 {
     Time {
         num: fraction.num().unsigned_abs(),
-        den: fraction.den(),
+        den: fraction.den().unsigned_abs(),
     }
 }
 

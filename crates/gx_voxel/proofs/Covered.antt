@@ -82,7 +82,7 @@ module _ (w x : ℤ) (above : pos 0 <ℤ w) where
         let r = find grid grid.count start end in
         any-map (HasSlice grid r.0 (members_in on ks grid r.0)) Holds (holds r.0 r.2 r.3) (runs_on on ks) (runs-have grid (members_in on ks grid) grid.count r.0 r.1)
 
-between : (axis : ℕ) (e : Extent) (p : Vec4) → IsWithinOpen e p → (((interval_on axis e).low *ℤ p.w) <ℤ coordinate4 axis p) × (coordinate4 axis p <ℤ ((interval_on axis e).high *ℤ p.w))
+pub between : (axis : ℕ) (e : Extent) (p : Vec4) → IsWithinOpen e p → (((interval_on axis e).low *ℤ p.w) <ℤ coordinate4 axis p) × (coordinate4 axis p <ℤ ((interval_on axis e).high *ℤ p.w))
 unfolding interval_on
 between axis e p h = go (axis == 0) (axis == 1)
   where
