@@ -1,5 +1,5 @@
 -- Sums over the runs gone into are at most sums over all runs.
-use Rattle.std.proofs.Common.{◌≡◌, ℕ, zero, suc, ◌+◌, ◌-◌, ◌<◌, ◌≤◌, refl, ap, arith, ℤ, pos, Bool, true, false, List, [], ◌∷◌, ◌++◌, length, get_or, take, subst, sym}
+use Rattle.std.proofs.Common.{◌≡◌, ℕ, zero, suc, ◌+◌, ◌-◌, ◌<◌, ◌≤◌, refl, ap, arith, ℤ, pos, Bool, true, false, List, [], ◌∷◌, length, get_or, take, subst, sym}
 use Rattle.std.specs.Prelude.{int_lt, if◌then◌else◌, sum_by, flat_map}
 use Rattle.std.proofs.lemmas.List.Sums.{sum_by_more, sum_by-take-le, sum_by-cons, sum_by-append}
 use Rattle.gx_voxel.specs.Cells.{Cell}

@@ -1,5 +1,5 @@
 -- From what the code does, run after run, to a descent.
-use Rattle.std.proofs.Common.{◌≡◌, ◌⊎◌, ℕ, zero, suc, ◌+◌, ◌-◌, ◌<◌, ◌≤◌, inl, inr, refl, sym, ap, subst, ◌∙◌, arith, add-one, ◌^◌, ℤ, unsigned_abs, true, false, List, [], ◌∷◌, ◌++◌, length, get_or, Option, None, Some}
+use Rattle.std.proofs.Common.{◌≡◌, ◌⊎◌, ℕ, zero, suc, ◌+◌, ◌-◌, ◌<◌, ◌≤◌, inl, inr, refl, sym, ap, subst, ◌∙◌, arith, add-one, ◌^◌, ℤ, unsigned_abs, true, false, List, [], ◌∷◌, ◌++◌, length, get_or}
 use Rattle.std.specs.List.{All}
 use Rattle.std.proofs.lemmas.Bool.{cases_lt}
 use Rattle.gx_num.specs.Ray.{RayParameter}
@@ -7,10 +7,10 @@ use Rattle.gx_num.specs.declared.extent.Extent.{Extent}
 use Rattle.gx_num.specs.declared.ray.Ray.{Ray}
 use Rattle.gx_offers.specs.Offers.{Offered, IsOffered}
 use Rattle.gx_boxes.specs.Boxes.{IsMet}
-use Rattle.gx_voxel.specs.Cut.{Cut, coordinate, cut_of}
+use Rattle.gx_voxel.specs.Cut.{coordinate}
 use Rattle.gx_voxel.specs.Cells.{without}
 use Rattle.gx_voxel.specs.Members.{Held, AreKept}
-use Rattle.gx_voxel.specs.Proxy.{content_of, axis_of, list_of, low_of, high_of, proxy_of, StandsAs, StandsWithin}
+use Rattle.gx_voxel.specs.Proxy.{content_of, axis_of, list_of, low_of, high_of, proxy_of, StandsWithin}
 use Rattle.gx_voxel.specs.declared.proxy.Proxy.{Proxy}
 use Rattle.gx_voxel.specs.declared.proxy.Header.{Header}
 use Rattle.gx_voxel.specs.declared.proxy.Run.{Run}
@@ -57,10 +57,14 @@ sound (suc n) room p h (at, ks, axes, proper, below, stands) is =
       rising = w.1.rising;
       has = w.1.has;
       deeper = λ i run less e.
-          let members = (run_at w.0 i).members in
-          (at, members, without w.0.axis axes, run-proper at n h ks axes w.0 w.1 proper i less,
+          let members = (run_at w.0 i).members in (
+            at,
+            members,
+            without w.0.axis axes,
+            run-proper at n h ks axes w.0 w.1 proper i less,
             all-among (λ k. k < room) ks members below (w.1.among i (omega (arith, less, count at n h ks axes w.0 w.1))),
-            run-stands at n h ks axes w.0 w.1 i run less e);
+            run-stands at n h ks axes w.0 w.1 i run less e,
+          );
     } in
     subst (λ m. IsSound m room h) (omega arith) s
 

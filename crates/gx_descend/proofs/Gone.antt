@@ -1,9 +1,8 @@
 -- What is offered and read in a node, and along a header whose runs do as much.
-use Rattle.std.proofs.Common.{◌≡◌, ◌⊎◌, ℕ, zero, suc, ◌+◌, ◌*◌, ◌<◌, ◌≤◌, inl, inr, refl, sym, ap, subst, ◌∙◌, arith, ℤ, Bool, true, false, List, [], ◌∷◌, length, Option, None, Some}
+use Rattle.std.proofs.Common.{◌≡◌, ◌⊎◌, ℕ, zero, suc, ◌+◌, ◌*◌, ◌<◌, ◌≤◌, inl, inr, refl, sym, ap, subst, ◌∙◌, arith, Bool, true, List, [], ◌∷◌, length, Option, None, Some}
 use Rattle.std.specs.Prelude.{if◌then◌else◌, sum_by, flat_map}
 use Rattle.std.specs.List.{All, AllByRecursion}
 use Rattle.std.proofs.lemmas.List.Sums.{sum_by-cons}
-use Rattle.gx_num.specs.Ray.{RayParameter, IsBelow, point_of_ray}
 use Rattle.gx_num.proofs.Order.{above_positive}
 use Rattle.gx_num.specs.declared.extent.Extent.{Extent}
 use Rattle.gx_num.specs.declared.ray.Ray.{Ray}
@@ -12,13 +11,13 @@ use Rattle.gx_boxes.specs.Boxes.{IsProper, IsMet}
 use Rattle.gx_voxel.specs.Cells.{Side, Cell, side_of, without, cells_within}
 use Rattle.gx_voxel.specs.Cut.{Cut, SliceRun, coordinate, cut_of}
 use Rattle.gx_voxel.specs.Members.{Held, AreKept}
-use Rattle.gx_voxel.specs.Proxy.{content_of, axis_of, list_of, proxy_of, IsNode, StandsAs, StandsWithin}
+use Rattle.gx_voxel.specs.Proxy.{content_of, axis_of, list_of, IsNode, StandsAs, StandsWithin}
 use Rattle.gx_voxel.specs.declared.proxy.Proxy.{Proxy}
 use Rattle.gx_voxel.specs.declared.proxy.Header.{Header}
 use Rattle.gx_along.specs.Along.{IsExact}
 use Rattle.gx_along.specs.Bounds.{tests_within, reads_within, IsBoxTest}
 use Rattle.gx_along.specs.Digits.{digits}
-use Rattle.gx_along.specs.Line.{IsWithin, IsStretch, IsPart}
+use Rattle.gx_along.specs.Line.{IsStretch, IsPart}
 use Rattle.gx_along.specs.Runs.{low_at, high_at}
 use Rattle.gx_along.specs.declared.line.Stretch.{Stretch}
 use Rattle.gx_along.specs.declared.runs.Seen.{Seen}
@@ -131,10 +130,10 @@ module _ (at : ℕ → Extent) (n : ℕ) (h : Header) (ks axes : List ℕ) (prop
         room = rest.room ∙ d.room;
         kept = λ k there. rest.kept k (d.kept k there);
         only = λ k there. elim (rest.only k there) [
-          | inl middle ↦ elim (d.only k middle) [ | inl early ↦ inl early | inr member ↦ inr (w.among i (omega (arith, less, count at n h ks axes cut w)) k member) ]
+          | inl middle ↦ elim (d.only k middle) [ inl early ↦ inl early | inr member ↦ inr (w.among i (omega (arith, less, count at n h ks axes cut w)) k member) ]
           | inr member ↦ inr member
         ];
-        whole = λ k any. elim any [ | inl due ↦ rest.kept k (d.whole k due.0 due.1) | inr any ↦ rest.whole k any ];
+        whole = λ k any. elim any [ inl due ↦ rest.kept k (d.whole k due.0 due.1) | inr any ↦ rest.whole k any ];
         tests = λ met box test along.
             let t = d.tests met (side_of cut.axis (run_at cut i) ∷ box) (part-test one part met test) (part-along one part box along) in
             omega (arith, t, rest.tests met box test along, sum_by-cons (λ (x : Seen). T met box (run_at cut x.index)) one seen);

@@ -1,17 +1,17 @@
 -- A header that stands for members: its runs are those of their cut, one by one, with some of the members each.
-use Rattle.std.proofs.Common.{◌≡◌, ◌⊎◌, ℕ, zero, suc, ◌+◌, ◌<◌, ◌≤◌, inl, inr, refl, sym, ap, subst, ◌∙◌, arith, ℤ, pos, Bool, true, false, cond, List, [], ◌∷◌, length, map, filter, get_or, Option, None, Some}
+use Rattle.std.proofs.Common.{◌≡◌, ℕ, zero, suc, ◌<◌, inl, inr, refl, sym, subst, arith, ℤ, pos, Bool, true, false, cond, List, [], ◌∷◌, length, map, filter, get_or, Option, None, Some}
 use Rattle.std.specs.List.{All}
 use Rattle.gx_num.specs.declared.extent.Extent.{Extent}
 use Rattle.gx_offers.specs.Offers.{AnyByRecursion, IsOneOf}
 use Rattle.gx_boxes.specs.Boxes.{IsProper}
-use Rattle.gx_voxel.specs.Cut.{Grid, SliceRun, Cut, cut_of}
+use Rattle.gx_voxel.specs.Cut.{SliceRun, Cut, cut_of}
 use Rattle.gx_voxel.specs.Cells.{without}
 use Rattle.gx_voxel.specs.Proxy.{content_of, axis_of, list_of, low_of, high_of, proxy_of, Alike, IsRun, StandsAs, StandsWithin}
 use Rattle.gx_voxel.specs.declared.proxy.Proxy.{Proxy}
 use Rattle.gx_voxel.specs.declared.proxy.Header.{Header}
 use Rattle.gx_voxel.specs.declared.proxy.Run.{Run}
-use Rattle.gx_voxel.proofs.Elements.{by_test, all-one}
-use Rattle.gx_voxel.proofs.Grown.{IsPiece, turn-each}
+use Rattle.gx_voxel.proofs.Elements.{all-one}
+use Rattle.gx_voxel.proofs.Grown.{turn-each}
 use Rattle.gx_voxel.proofs.Standing.{is-cut, header-runs}
 use Rattle.gx_along.specs.Runs.{IsRising, HasRuns, low_at, high_at}
 use Rattle.gx_along.proofs.Rising.{headers-rise}
@@ -88,16 +88,18 @@ module _ (at : ℕ → Extent) where
       go None e stood = absurd (cc)
       go (Some cut) e stood =
           let same : stood.0 ≡ h = cc in
-          let rise = headers-rise at (suc n) p ks axes h proper stands is in
-          (cut, record {
-            cuts = e;
-            axis = subst (λ x. axis_of x ≡ cut.axis) same stood.2;
-            alike = subst (λ x. Alike (IsRun (λ q members. StandsWithin at n q members (without cut.axis axes))) (list_of x) cut.runs) same stood.3;
-            rising = rise.0;
-            has = rise.1;
-            some = (header-runs at (suc n) p ks axes h proper stands is).some;
-            among = runs-among ks axes proper cut e;
-          })
+          let rise = headers-rise at (suc n) p ks axes h proper stands is in (
+            cut,
+            record {
+              cuts = e;
+              axis = subst (λ x. axis_of x ≡ cut.axis) same stood.2;
+              alike = subst (λ x. Alike (IsRun (λ q members. StandsWithin at n q members (without cut.axis axes))) (list_of x) cut.runs) same stood.3;
+              rising = rise.0;
+              has = rise.1;
+              some = (header-runs at (suc n) p ks axes h proper stands is).some;
+              among = runs-among ks axes proper cut e;
+            },
+          )
 
   module _ (n : ℕ) (h : Header) (ks axes : List ℕ) (cut : Cut) (w : IsHeaderOf n h ks axes cut) where
     abbrev Stands : Proxy → List ℕ → Type 0

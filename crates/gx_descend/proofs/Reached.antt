@@ -1,9 +1,9 @@
 -- A member that is due in a stretch is due in the part of a run gone into that has it.
-use Rattle.std.proofs.Common.{◌≡◌, ◌⊎◌, ℕ, ◌+◌, ◌*◌, ◌<◌, inl, inr, refl, sym, ap, subst, ◌∙◌, arith, ℤ, pos, ◌+ℤ◌, ◌*ℤ◌, ◌≤ℤ◌, ◌<ℤ◌, Bool, true, false, List, [], ◌∷◌, length}
+use Rattle.std.proofs.Common.{◌≡◌, ◌⊎◌, ℕ, ◌<◌, inl, inr, refl, sym, subst, arith, ℤ, pos, ◌+ℤ◌, ◌*ℤ◌, ◌≤ℤ◌, ◌<ℤ◌, Bool, true, false, List, [], ◌∷◌, length}
 use Rattle.std.specs.Prelude.{◌==◌, if◌then◌else◌}
 use Rattle.std.specs.List.{AllByRecursion}
 use Rattle.std.proofs.lemmas.Int.{ints}
-use Rattle.gx_num.specs.Ray.{RayParameter, IsPositive, IsBelow, IsUpTo, point_of_ray}
+use Rattle.gx_num.specs.Ray.{RayParameter, IsBelow, IsUpTo, point_of_ray}
 use Rattle.gx_num.proofs.Order.{le_lt, lt_le, apart, lesser, mediant, above_mediant, below_mediant, positive_mediant}
 use Rattle.gx_num.specs.declared.extent.Extent.{Extent}
 use Rattle.gx_num.specs.declared.ray.Ray.{Ray}
@@ -18,7 +18,7 @@ use Rattle.gx_along.specs.Line.{time, IsInRun, IsWithin, IsStretch, IsPart}
 use Rattle.gx_along.specs.Runs.{low_at, high_at}
 use Rattle.gx_along.specs.declared.line.Stretch.{Stretch}
 use Rattle.gx_along.specs.declared.runs.Seen.{Seen}
-use Rattle.gx_descend.specs.Descent.{IsCrossing, IsDue}
+use Rattle.gx_descend.specs.Descent.{IsDue}
 use Rattle.gx_descend.proofs.Placed.{IsHeaderOf, no_run, run_at, place-of, count, low-is, high-is}
 
 -- ---- parameters
@@ -43,11 +43,13 @@ some-within part a b t ok p q r at tb from to =
     let some : 0 < low.0.den = either (λ x. 0 < x.den) low.0 a (time part.from) low.3 p ok.0 in
     let u = mediant low.0 high.0 in
     let above = above_mediant low.0 high.0 between in
-    let below = below_mediant low.0 high.0 between in
-    (u, (positive_mediant low.0 high.0 some between).1,
+    let below = below_mediant low.0 high.0 between in (
+      u,
+      (positive_mediant low.0 high.0 some between).1,
       le_lt a low.0 u p low.1 above,
       lt_le u high.0 b q below high.1,
-      (le_lt (time part.from) low.0 u ok.0 low.2 above, lt_le u high.0 (time part.to) ok.1 below high.2))
+      (le_lt (time part.from) low.0 u ok.0 low.2 above, lt_le u high.0 (time part.to) ok.1 below high.2),
+    )
 
 -- a parameter strictly between the ends of a stretch
 pub some-point : (s : Stretch) → IsStretch s → (t : RayParameter) × (0 < t.den) × IsWithin s t

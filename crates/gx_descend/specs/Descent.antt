@@ -37,7 +37,7 @@ pub record IsTree (at : ℕ → Extent) (ks : List ℕ) (p : Proxy) : Type 0 whe
 abbrev pub StandsForSome : ℕ → Proxy → Type 0
 StandsForSome room p = (at : ℕ → Extent) × (ks : List ℕ) × IsTree at ks p × All (λ k. k < room) ks
 
--- Each member that is due comes and none but members, at most as many as the cells that pass have; and at most as much is read as the headers and runs that pass add up to, something where there is a cut.
+-- Each member that is due comes and none but members, at most as many as the cells that pass have; and at most as much is read as the headers and runs that pass add up to, something where there is a cut, and never less than before.
 pub record IsDescended (at : ℕ → Extent) (ks : List ℕ) (ray : Ray) (s : Stretch) (old new : Offered) (before after : ℕ) : Type 0 where
   pub room : new.room ≡ old.room
   pub kept : (k : ℕ) → IsOneOf k old.numbers → IsOneOf k new.numbers
@@ -46,3 +46,4 @@ pub record IsDescended (at : ℕ → Extent) (ks : List ℕ) (ray : Ray) (s : St
   pub tests : (met : List Side → Bool) → IsBoxTest ray s met → length new.numbers ≤ length old.numbers + tests_within met (cells at ks all_axes)
   pub reads : (met : List Side → Bool) → IsBoxTest ray s met → after ≤ before + reads_within met at 3 [] ks all_axes
   pub some : (cut : Cut) → cut_of at ks all_axes ≡ Some cut → before < after
+  pub more : before ≤ after

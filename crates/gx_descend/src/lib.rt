@@ -2,5 +2,7 @@
 #![tactic(auto)]
 
 mod descent;
+#[cfg(test)]
+mod tests;
 
 pub use descent::descend;

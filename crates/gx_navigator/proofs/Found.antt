@@ -45,7 +45,7 @@ get_some : (is : List Instance) (k : ℕ) → k < length is → (i : Instance) �
 get_some is k less = elim (slice_get_cases is k).1 [ inl at ↦ (at.0, at.2) | inr none ↦ absurd (omega (arith, none.0)) ]
 
 module _ (h : Hierarchy) where
-  abbrev found : Place → ℕ → Option (Hit Place)
+  abbrev pub found : Place → ℕ → Option (Hit Place)
   found p k = option_map (relabel place) (option_map hit_of (met_of h (record { volume = p.volume; ray = p.ray }) k))
 
   abbrev pub hits : Frame → List (Hit Frame)
@@ -66,7 +66,7 @@ module _ (h : Hierarchy) where
           subst (λ (x : Hit Frame). daughter_of h f.volume x.ordinal ≡ Some x.daughter.volume) same (ap (daughter_of h f.volume) m.0 ∙ m.1)
 
   module _ (tree : IsTree h) where
-    is_found : IsFound h found
+    pub is_found : IsFound h found
     is_found p moves k i at = (
       clip_of (solid_at h i.volume) (local_ray i p.ray),
       clip_of-clip (solid_at h i.volume) (local_ray i p.ray) (bounded_at h tree i.volume (instance_at h tree p.volume k i at).volume) (moves_at h tree p.volume k i at p.ray moves),

@@ -1,5 +1,5 @@
-use Rattle.std.proofs.Common.{◌≡◌, ◌<◌, ◌≤◌, ◌-◌, length, true, false, inl, inr, refl, sym, subst, ap, ◌∙◌, arith}
-use Rattle.gx_voxel.specs.Proxy.{content_of, axis_of, list_of}
+use Rattle.std.proofs.Common.{◌≡◌, ◌<◌, ◌-◌, true, false, inl, inr, sym, subst, ap, ◌∙◌, arith}
+use Rattle.gx_voxel.specs.Proxy.{content_of}
 use Rattle.gx_voxel.specs.declared.proxy.Proxy as proxy
 use Rattle.gx_voxel.specs.Cut.{coordinate}
 use Rattle.gx_along.specs.Along.{is_entered_at, index_of, left_of}

@@ -16,4 +16,5 @@ returns g c = λ at ks tree.
       tests = λ met test. d.tests met [] test (λ t den within. tt);
       reads = λ met test. d.reads met [] test (λ t den within. tt);
       some = λ cut e. d.some cut e (omega arith);
+      more = d.more;
     }

@@ -1,8 +1,11 @@
-use Rattle.std.proofs.Common.{◌<◌, [], refl, sym, subst, length, unsigned_abs, arith}
+use Rattle.std.specs.Prelude.{OnOk}
+use Rattle.std.proofs.Common.{◌<◌, [], Result, Ok, Err, refl, sym, subst, length, unsigned_abs, arith}
 use Rattle.gx_num.specs.declared.vector.TheConstants.{M}
 use Rattle.gx_io.proofs.Joined.{with_after-nothing}
 use Rattle.gx_fraction.specs.Fraction.{parameter_of}
 use Rattle.gx_path.specs.Path.{max_length}
+use Rattle.gx_clip.specs.Clip.{IsInsideBetween}
+use Rattle.gx_nest.proofs.Nested.{solid_at}
 use Rattle.gx_partition.specs.Partition.{open_rows}
 use Rattle.gx_partition.specs.Walk.{pieces_of}
 use Rattle.gx_navigator.specs.Tests.{tests_in, reads_in}
@@ -86,20 +89,24 @@ returns-clause-few_reads g c passes is =
       c.walk_world.ensures.few_reads (λ f. tests_in h passes (place f)) (λ f. reads_in h passes (place f)) (record { passes = passes; is_test = is; tests_are = λ f from to. refl; reads_are = λ f from to. refl }),
     )
 
+on_ok-map : {A E P Q : Type 0} → (r : Result A E) → (P → Q) → OnOk r P → OnOk r Q
+on_ok-map (Ok a) f p = f p
+on_ok-map (Err e) f p = tt
+
 pub returns-clause-some_tests : goal.returns-clause-some_tests
-returns-clause-some_tests g c ok rows is n has =
+returns-clause-some_tests g c = on_ok-map c.walk_world.result (λ some rows is n has.
     let kept = c.in-Some.ensures.kept in
     omega (
     arith,
-    c.walk_world.ensures.some_tests ok,
+    some,
     some_tested c.args.sealed.now kept.tree kept.clean c.args.ray.now c.requires.moves c.world.result c.world.ensures.value c.in-Some.span c.in-Some.ensures.value rows is n has,
-    )
+    )) c.walk_world.ensures.some_tests
 
 pub returns-clause-some_reads : goal.returns-clause-some_reads
-returns-clause-some_reads g c ok rows is n has =
+returns-clause-some_reads g c = on_ok-map c.walk_world.result (λ some rows is n has.
     let kept = c.in-Some.ensures.kept in
     omega (
     arith,
-    c.walk_world.ensures.some_reads ok,
+    some,
     some_read c.args.sealed.now kept.tree kept.clean c.args.ray.now c.requires.moves c.world.result c.world.ensures.value c.in-Some.span c.in-Some.ensures.value rows is n has,
-    )
+    )) c.walk_world.ensures.some_reads
