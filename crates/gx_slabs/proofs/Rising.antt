@@ -10,7 +10,7 @@ use Rattle.gx_algebra.proofs.Laws.{mul_comm}
 use Rattle.gx_algebra.proofs.Ring.{num}
 use Rattle.gx_algebra.proofs.Terms.{◌≣◌, ◌⊕◌, ◌⊗◌}
 use Rattle.gx_algebra.proofs.Identity.{identity, number}
-use Rattle.gx_voxel.specs.Members.{reach}
+use Rattle.gx_boxes.specs.Boxes.{reach}
 use Rattle.gx_along.specs.Line.{near, far}
 use Rattle.gx_along.proofs.Before.{keeps}
 use Rattle.gx_along.proofs.Exact.{entered-falls}

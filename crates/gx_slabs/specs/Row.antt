@@ -3,7 +3,7 @@ use Rattle.std.specs.Prelude.{◌≡◌, ◌⊎◌, ℕ, ◌+◌, ◌-◌, ◌<�
 use Rattle.std.specs.List.{range_with_len}
 use Rattle.gx_num.specs.Ray.{RayParameter}
 use Rattle.gx_offers.specs.Offers.{Offered, IsOffered}
-use Rattle.gx_voxel.specs.Members.{reach}
+use Rattle.gx_boxes.specs.Boxes.{reach}
 use Rattle.gx_along.specs.declared.line.Stretch.{Stretch}
 use Rattle.gx_along.specs.Line.{time, is_left, is_entered}
 use Rattle.gx_slabs.specs.declared.row.Row.{Row}

@@ -1,7 +1,7 @@
 ghost use Rattle.std.specs.Prelude.{◌≡◌, ◌<◌, ◌≤◌, ◌^◌, ◌<ℤ◌, ◌+ℤ◌, ◌*ℤ◌, pos, unsigned_abs};
 ghost use Rattle.gx_num.specs.Vector.{IsWithin};
 ghost use Rattle.gx_voxel.specs.Cut.{coordinate};
-ghost use Rattle.gx_voxel.specs.Members.{reach};
+ghost use Rattle.gx_boxes.specs.Boxes.{reach};
 ghost use Rattle.gx_along.specs.Line.{IsStretch};
 ghost use Rattle.gx_slabs.specs.Row.{IsRow, AreOfferedAlong};
 ghost use Rattle.gx_slabs.specs.Slabs.{AreCopiesOffered};
