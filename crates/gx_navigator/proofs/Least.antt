@@ -341,19 +341,19 @@ module _ (h : Hierarchy) (tree : IsTree h) (clean : IsClean h) (ray : Ray) (move
         by [] all = tt
         by (hit ∷ hs) all = (
           (λ path leads.
-          let u = leads.1 in
-          let one : u.0 ≡ hit.daughter.volume = let e : Some u.0 ≡ Some hit.daughter.volume = sym u.1 ∙ all.0 in cc in
-          (leads.0, subst (λ (x : ℕ). Leads (daughter_of h) x path leads.0) one u.2, leads.2)),
+              let u = leads.1 in
+              let one : u.0 ≡ hit.daughter.volume = let e : Some u.0 ≡ Some hit.daughter.volume = sym u.1 ∙ all.0 in cc in
+              (leads.0, subst (λ (x : ℕ). Leads (daughter_of h) x path leads.0) one u.2, leads.2)),
           by hs all.1,
         )
 
     pub some_read : (n : ℕ) → HasPaths (IsToHeader h rows) n → n ≤ cost_of (least_each (λ f. least_of h (place f))) (hits h) max_length from to world
     some_read n has = subst (λ k. k ≤ cost_of (least_each (λ f. least_of h (place f))) (hits h) max_length from to world) has.many
         (omega (
-        arith,
-        ap (λ c. cost_of (least_each c) (hits h) max_length from to world) least_is,
-        length-header (hits h) has_header max_length from to world,
-        no_more has.paths (header_paths (hits h) has_header max_length world) has.different (by has.paths (subst (λ l. AllByRecursion (IsToHeader h l) has.paths) are has.each)),
+          arith,
+          ap (λ c. cost_of (least_each c) (hits h) max_length from to world) least_is,
+          length-header (hits h) has_header max_length from to world,
+          no_more has.paths (header_paths (hits h) has_header max_length world) has.different (by has.paths (subst (λ l. AllByRecursion (IsToHeader h l) has.paths) are has.each)),
         ))
       where
         one_of : (o : Option Cut) → ◌≡◌ {A = ℕ} (if is_some o then 1 else 0) (elim o [ None ↦ 0 | Some cut ↦ 1 ])

@@ -66,7 +66,7 @@ module _ (h : Hierarchy) (f : Frame) (s : Span) (known : (n : ℕ) × IsKnown h 
       let is = is_met_at h f k met e in
       let inside = met-inside h kn.tree f kn.moves k met is in
       let hit : Hit Place = relabel place (hit_of met) in
-      let within = part h kn.clean (found h) (is_found h kn.tree) from to (place f) (record { volume = kn.volume; moves = kn.moves; span = kn.inside }) k hit less (ap (λ o. option_map (relabel place) (option_map hit_of o)) e) in
+      let within = part h kn.tree kn.clean (found h) (is_found h kn.tree) from to (place f) (record { volume = kn.volume; moves = kn.moves; span = kn.inside }) k hit less (ap (λ o. option_map (relabel place) (option_map hit_of o)) e) in
       let a = parameter_of met.span.from in
       let b = parameter_of met.span.to in
       let t = mediant a b in
@@ -92,7 +92,7 @@ module _ (h : Hierarchy) (f : Frame) (s : Span) (known : (n : ℕ) × IsKnown h 
     below : ((k : ℕ) → IsOneOf k new.numbers → AnyByRecursion (λ j. k ≡ j) old.numbers ⊎ IsOneOf k (range_with_len 0 count)) → AllByRecursion (λ k. k < count) new.numbers
     below only = all-of (λ k. k < count) new.numbers (λ k one. elim (only k one) [
       | inl before ↦ absurd (subst (IsOneOf k) none before)
-      | inr member ↦ (in-range 0 count k member).1
+      | inr member ↦ let less = (in-range 0 count k member).1 in omega (arith, less)
     ])
 
     module _ (before after : ℕ) (p : Proxy) (tree : IsTreeOf h f.volume p) (d : IsDescended (extent_in h f.volume) (ordinals_in h f.volume) f.ray (stretch_between from to) old new before after) where

@@ -54,5 +54,13 @@ pub fn trace_ray<R: Rows, T: Ledger, Q: Ledger>(
         volume: sealed.world(),
         ray: *ray,
     };
-    walk_world(&Tracer { sealed }, &world, span, scratch, rows, tests, reads)
+    walk_world(
+        &Tracer { sealed },
+        &world,
+        span,
+        scratch,
+        rows,
+        tests,
+        reads,
+    )
 }

@@ -364,6 +364,7 @@ module _ (h : Hierarchy) (tree : IsTree h) (v : ℕ) (below : v < length h.volum
       direction = placeable.range.copies.direction;
       few = placeable.range.copies.few;
       wide = known.1.wide;
+      narrow = near_width;
       from = within-coordinate axis reach _ (proper_at 0 some).low;
       to =
           let last : count - 1 < count = omega (arith, some) in

@@ -44,6 +44,7 @@ pub record AreReplicas (h : Hierarchy) (v axis : ℕ) (low width : ℤ) (count :
   pub direction : axis < 3
   pub few : count ≤ 4096
   pub wide : pos 0 <ℤ width
+  pub narrow : unsigned_abs width ≤ reach
   pub from : unsigned_abs low ≤ reach
   pub to : unsigned_abs (low +ℤ pos count *ℤ width) ≤ reach
 

@@ -2,7 +2,7 @@ ghost use Rattle.std.specs.Prelude.{◌≡◌, ◌<◌, IfOk};
 ghost use Rattle.gx_num.specs.Vector.{IsWithin};
 ghost use Rattle.gx_sealed.specs.Sealed.{IsTraceable};
 
-use crate::{SealError, Sealed, Step};
+use crate::{Cells, SealError, Sealed, Step};
 use gx_check::Verdict;
 use gx_clip::Span;
 use gx_num::{Ray, V3};
@@ -11,6 +11,7 @@ use gx_shapes::SolidKind;
 use gx_solids::solid;
 use gx_steps::Steps;
 use gx_tree::{Hierarchy, Placement, Volume, are_within_limits};
+use gx_voxel::Proxy;
 use std::alloc::{AllocError, Global};
 use std::marker::Brand;
 use std::sync::ledger::{Blank, Ledger};
@@ -58,6 +59,10 @@ fn hierarchy(alloc: Global, bodies: &[Body<'_>]) -> Result<Hierarchy, Fail> {
     for body in bodies {
         volumes.push(volume(alloc, body)?)?;
     }
+    made(alloc, volumes)
+}
+
+fn made(alloc: Global, volumes: Vec<Volume>) -> Result<Hierarchy, Fail> {
     if !are_within_limits(&volumes) {
         return Err("too much".into());
     }
@@ -65,7 +70,11 @@ fn hierarchy(alloc: Global, bodies: &[Body<'_>]) -> Result<Hierarchy, Fail> {
 }
 
 fn sealed(alloc: Global, bodies: &[Body<'_>]) -> Result<Sealed, Fail> {
-    match Sealed::new(alloc, hierarchy(alloc, bodies)?) {
+    seal(alloc, hierarchy(alloc, bodies)?)
+}
+
+fn seal(alloc: Global, tree: Hierarchy) -> Result<Sealed, Fail> {
+    match Sealed::new(alloc, tree) {
         Ok(sealed) => Ok(sealed),
         Err(SealError::Refuted { .. }) => Err("refuted".into()),
         Err(SealError::NoMemory) => Err("memory".into()),
@@ -243,5 +252,45 @@ fn an_overlap_is_handed_back(rt: HostRuntime) -> Result<(), Fail> {
         "0 0 1 5:-5:5:1 5:5:-5:1 5:-5:-5:1 4:-5:-5:1"
     );
     assert_eq!(rt; tree.count(), 2);
+    Ok(())
+}
+
+// By hand: five cells of width 4 fill a box from -10 to 10 along y, and have no daughters.
+#[test]
+fn copies_of_a_replica_are_slabs(rt: HostRuntime) -> Result<(), Fail> {
+    let alloc = rt.alloc();
+    let mut placements = Vec::new(alloc);
+    placements.push(Placement::Replica {
+        volume: 1,
+        axis: 1,
+        count: 5,
+        width: 4,
+    })?;
+    let mut volumes = Vec::new(alloc);
+    volumes.push(Volume::new(
+        Vec::from_slice(alloc, b"world")?,
+        solid(alloc, BOX, &[10, 10, 10]).ok().ok_or("a solid")?,
+        Vec::from_slice(alloc, b"Air")?,
+        placements,
+    ))?;
+    volumes.push(volume(alloc, &(b"cell", BOX, &[10, 2, 10], &[]))?)?;
+    let sealed = seal(alloc, made(alloc, volumes)?)?;
+    if sealed.count() != 2 {
+        return Err("volumes".into());
+    }
+    let Cells::Replicas {
+        axis,
+        low,
+        width,
+        count,
+    } = sealed.cells(0)
+    else {
+        return Err("a tree".into());
+    };
+    assert_eq!(rt; (*axis, *low, *width, *count), (1, -10, 4, 5));
+    let Cells::Tree(Proxy::Node(members)) = sealed.cells(1) else {
+        return Err("no node".into());
+    };
+    assert_eq!(rt; members.count(), 0);
     Ok(())
 }

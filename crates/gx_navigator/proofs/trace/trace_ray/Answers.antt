@@ -97,16 +97,16 @@ pub returns-clause-some_tests : goal.returns-clause-some_tests
 returns-clause-some_tests g c = on_ok-map c.walk_world.result (λ some rows is n has.
     let kept = c.in-Some.ensures.kept in
     omega (
-    arith,
-    some,
-    some_tested c.args.sealed.now kept.tree kept.clean c.args.ray.now c.requires.moves c.world.result c.world.ensures.value c.in-Some.span c.in-Some.ensures.value rows is n has,
+      arith,
+      some,
+      some_tested c.args.sealed.now kept.tree kept.clean c.args.ray.now c.requires.moves c.world.result c.world.ensures.value c.in-Some.span c.in-Some.ensures.value rows is n has,
     )) c.walk_world.ensures.some_tests
 
 pub returns-clause-some_reads : goal.returns-clause-some_reads
 returns-clause-some_reads g c = on_ok-map c.walk_world.result (λ some rows is n has.
     let kept = c.in-Some.ensures.kept in
     omega (
-    arith,
-    some,
-    some_read c.args.sealed.now kept.tree kept.clean c.args.ray.now c.requires.moves c.world.result c.world.ensures.value c.in-Some.span c.in-Some.ensures.value rows is n has,
+      arith,
+      some,
+      some_read c.args.sealed.now kept.tree kept.clean c.args.ray.now c.requires.moves c.world.result c.world.ensures.value c.in-Some.span c.in-Some.ensures.value rows is n has,
     )) c.walk_world.ensures.some_reads

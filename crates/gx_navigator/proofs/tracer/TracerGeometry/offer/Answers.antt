@@ -1,5 +1,6 @@
-use Rattle.std.proofs.Common.{◌≡◌, ℕ, ◌<◌, arith, sym, ap, subst, length, get_or, All}
+use Rattle.std.proofs.Common.{◌≡◌, ℕ, ◌<◌, ◌≤◌, ◌*◌, ◌^◌, ℤ, to_z, of_z, w64, unsigned_abs, refl, arith, sym, ap, subst, length, get_or, All}
 use Rattle.std.proofs.lemmas.List.FromFn.{length-range_with_len, get_or-range_with_len}
+use Rattle.std.proofs.lemmas.Int.{to_z-of_z, fits_signed_from_abs}
 use Rattle.gx_num.specs.declared.extent.Extent.{Extent}
 use Rattle.gx_tree.specs.Hierarchy.{Hierarchy, instances}
 use Rattle.gx_along.specs.declared.line.Stretch.{Stretch}
@@ -9,6 +10,10 @@ use Rattle.gx_sealed.specs.declared.cells.Cells.{Cells}
 use Rattle.gx_sealed.specs.Cells.{extent_in, ordinals_in, IsCells}
 use Rattle.gx_navigator.proofs.Offered.{tree_below, tree_whole, tree_few_tests, tree_few_reads, tree_some_reads, copies_below, copies_whole, copies_few_tests, copies_some_reads}
 use Rattle.gx_navigator.proofs.tracer.TracerGeometry.offer.Goals as goal
+
+-- a number that is handed on by its bits
+by_value : (z : ℤ) → unsigned_abs z ≤ 2 ^ 31 → to_z w64 (of_z w64 z) ≡ z
+by_value z h = to_z-of_z w64 z (fits_signed_from_abs w64 z (omega (arith, h)))
 
 ordinals_below : (h : Hierarchy) (v room : ℕ) → length (instances h v) ≤ room → All (λ k. k < room) (ordinals_in h v)
 ordinals_below h v room few k d less =
@@ -78,7 +83,11 @@ returns-in-Replicas-clause-below g c =
     let f = c.args.mother.now in
     let r = c.in-Replicas in
     let are = subst (IsCells h f.volume) r.is c.cells.ensures.cells in
-    let offered = subst (λ (s : Stretch). AreCopiesOffered r.axis r.low r.width r.count f.ray s c.args.offers.now c.offer_copies.new.offers) c.stretch_of-stretch.ensures.value c.offer_copies.ensures in
+    let said = λ (low width : ℤ) (s : Stretch). AreCopiesOffered r.axis low width r.count f.ray s c.args.offers.now c.offer_copies.new.offers in
+    let low = by_value r.low (omega (arith, are.from)) in
+    let width = by_value r.width (omega (arith, are.narrow)) in
+    let offered = subst (λ (s : Stretch). said r.low r.width s) c.stretch_of-stretch.ensures.value
+    (subst (λ z. said r.low z c.stretch_of-stretch.result) width (subst (λ z. said z (to_z w64 (of_z w64 r.width)) c.stretch_of-stretch.result) low c.offer_copies.ensures)) in
     copies_below h f c.args.span c.requires.known c.args.offers.now c.offer_copies.new.offers c.requires.none r.axis r.low r.width r.count are offered
 
 pub returns-in-Replicas-clause-whole : goal.returns-in-Replicas-clause-whole
@@ -87,7 +96,11 @@ returns-in-Replicas-clause-whole g c =
     let f = c.args.mother.now in
     let r = c.in-Replicas in
     let are = subst (IsCells h f.volume) r.is c.cells.ensures.cells in
-    let offered = subst (λ (s : Stretch). AreCopiesOffered r.axis r.low r.width r.count f.ray s c.args.offers.now c.offer_copies.new.offers) c.stretch_of-stretch.ensures.value c.offer_copies.ensures in
+    let said = λ (low width : ℤ) (s : Stretch). AreCopiesOffered r.axis low width r.count f.ray s c.args.offers.now c.offer_copies.new.offers in
+    let low = by_value r.low (omega (arith, are.from)) in
+    let width = by_value r.width (omega (arith, are.narrow)) in
+    let offered = subst (λ (s : Stretch). said r.low r.width s) c.stretch_of-stretch.ensures.value
+    (subst (λ z. said r.low z c.stretch_of-stretch.result) width (subst (λ z. said z (to_z w64 (of_z w64 r.width)) c.stretch_of-stretch.result) low c.offer_copies.ensures)) in
     copies_whole h f c.args.span c.requires.known c.args.offers.now c.offer_copies.new.offers c.requires.none r.axis r.low r.width r.count are offered
 
 pub returns-in-Replicas-clause-few_tests : goal.returns-in-Replicas-clause-few_tests
@@ -96,7 +109,11 @@ returns-in-Replicas-clause-few_tests g c =
     let f = c.args.mother.now in
     let r = c.in-Replicas in
     let are = subst (IsCells h f.volume) r.is c.cells.ensures.cells in
-    let offered = subst (λ (s : Stretch). AreCopiesOffered r.axis r.low r.width r.count f.ray s c.args.offers.now c.offer_copies.new.offers) c.stretch_of-stretch.ensures.value c.offer_copies.ensures in
+    let said = λ (low width : ℤ) (s : Stretch). AreCopiesOffered r.axis low width r.count f.ray s c.args.offers.now c.offer_copies.new.offers in
+    let low = by_value r.low (omega (arith, are.from)) in
+    let width = by_value r.width (omega (arith, are.narrow)) in
+    let offered = subst (λ (s : Stretch). said r.low r.width s) c.stretch_of-stretch.ensures.value
+    (subst (λ z. said r.low z c.stretch_of-stretch.result) width (subst (λ z. said z (to_z w64 (of_z w64 r.width)) c.stretch_of-stretch.result) low c.offer_copies.ensures)) in
     copies_few_tests h f c.args.span c.requires.known c.args.offers.now c.offer_copies.new.offers c.requires.none r.axis r.low r.width r.count are offered
 
 pub returns-in-Replicas-clause-some_reads : goal.returns-in-Replicas-clause-some_reads
@@ -105,5 +122,9 @@ returns-in-Replicas-clause-some_reads g c =
     let f = c.args.mother.now in
     let r = c.in-Replicas in
     let are = subst (IsCells h f.volume) r.is c.cells.ensures.cells in
-    let offered = subst (λ (s : Stretch). AreCopiesOffered r.axis r.low r.width r.count f.ray s c.args.offers.now c.offer_copies.new.offers) c.stretch_of-stretch.ensures.value c.offer_copies.ensures in
+    let said = λ (low width : ℤ) (s : Stretch). AreCopiesOffered r.axis low width r.count f.ray s c.args.offers.now c.offer_copies.new.offers in
+    let low = by_value r.low (omega (arith, are.from)) in
+    let width = by_value r.width (omega (arith, are.narrow)) in
+    let offered = subst (λ (s : Stretch). said r.low r.width s) c.stretch_of-stretch.ensures.value
+    (subst (λ z. said r.low z c.stretch_of-stretch.result) width (subst (λ z. said z (to_z w64 (of_z w64 r.width)) c.stretch_of-stretch.result) low c.offer_copies.ensures)) in
     copies_some_reads h f c.args.span c.requires.known c.args.offers.now c.offer_copies.new.offers c.requires.none r.axis r.low r.width r.count are offered c.args.reads.now
