@@ -90,10 +90,10 @@ module _ (h : Hierarchy) (rays : List Ray) where
     }
 
     paths_more : (Is : List Row → List ℕ → Type 0) (old mid new : ℕ) → PathsSoFar h Is rays i old mid → RayAtLeast h Is ray mid new → PathsSoFar h Is rays (i + 1) old new
-    paths_more Is old mid new so_far enough = record { left = λ n are. go (so_far.left n are) }
+    paths_more Is old mid new so_far enough = record { left = λ n are. go n (so_far.left n are) }
       where
-        go : {n : ℕ} → (rest : ℕ) × ArePaths h Is (drop i rays) rest × (old + n ≤ mid + rest) → (rest : ℕ) × ArePaths h Is (drop (i + 1) rays) rest × (old + n ≤ new + rest)
-        go (all, are, most) =
+        go : (n : ℕ) → (rest : ℕ) × ArePaths h Is (drop i rays) rest × (old + n ≤ mid + rest) → (rest : ℕ) × ArePaths h Is (drop (i + 1) rays) rest × (old + n ≤ new + rest)
+        go n (all, are, most) =
             let split = subst (λ l. ArePaths h Is l all) (drop_get rays i ray at) are in
             let one = enough split.0 split.3 split.1 split.4 in
             (split.2, split.5, omega (arith, most, one, split.6))

@@ -53,7 +53,6 @@ pub fn run<S: Source, K: Sink, T: Ledger, Q: Ledger>(
 
     // After a read that failed there is no other.
     ensures last { result ≡ ReadFault → (before : S) × (S.faults before ≡ S.faults source.old) × S.fails before source.new }
-
 {
     match command_from(alloc, words) {
         Some(command) => execute(alloc, command, source, sink, tests, reads),

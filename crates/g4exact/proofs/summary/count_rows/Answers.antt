@@ -37,7 +37,7 @@ returns-clause-rows g c = (
 )
 
 pub returns-clause-few : goal.returns-clause-few
-returns-clause-few g c = few_before c.args.sealed.now c.args.rays.now c.loop-i.i _ _ c.loop-i.invariant.tested c.requires.kept.tree (recursion_from_All IsTraceable c.args.rays.now c.count.ensures.kept)
+returns-clause-few g c = few_before c.args.sealed.now c.args.rays.now c.loop-i.i _ _ c.loop-i.invariant.tested c.requires.kept.tree (recursion_from_All IsTraceable c.args.rays.now c.count-i-end.ensures.kept)
 
 pub returns-clause-enough : goal.returns-clause-enough
 returns-clause-enough g c = enough_whole c.args.sealed.now c.args.rays.now c.loop-i.i _ _ c.loop-i.invariant.tested (omega arith)
