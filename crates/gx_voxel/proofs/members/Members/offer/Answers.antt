@@ -20,4 +20,4 @@ returns c = λ at kept.
     let all = take_all c.loop-k.k-index c.deref-k-items.result.now (omega (arith, c.loop-k-test.false)) ∙ c.deref-k-items.ensures.value in
     let numbers = ap (λ h. h.numbers) c.self.view_is in
     weaker (λ k. Unit {0}) (λ k. IsMet (at k) c.args.ray.now) c.args.self.now.numbers c.args.offers.now c.loop-k.offers (λ k h d. tt)
-        (subst (λ l. IsOffered (λ k. Unit {0}) l c.args.offers.now c.loop-k.offers) (all ∙ numbers) c.loop-k.invariant)
+    (subst (λ l. IsOffered (λ k. Unit {0}) l c.args.offers.now c.loop-k.offers) (all ∙ numbers) c.loop-k.invariant)
