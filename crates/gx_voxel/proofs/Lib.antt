@@ -1,3 +1,4 @@
+mod Boxed
 pub mod Covered
 pub mod Elements
 pub mod Flat

@@ -1,3 +1,4 @@
+pub mod Kept
 pub mod Cells
 pub mod Cut
 pub mod Laws

@@ -1,4 +1,4 @@
--- Lists of members, by their numbers, and their boxes.
+-- Lists of members, by their numbers, with their boxes.
 use Rattle.std.specs.Prelude.{◌≡◌, ℕ, ◌≤◌, pos, List, length, slice_index_or}
 use Rattle.std.specs.List.{AllByRecursion}
 use Rattle.std.specs.List.Sorted.{IsStrictlyIncreasing}
@@ -15,14 +15,14 @@ pub record AreMembers (ks : List ℕ) : Type 0 where
   pub increasing : IsStrictlyIncreasing ks
   pub few : length ks ≤ most
 
--- Members, and the boxes that are kept of them: of all, or none.
+-- The numbers of some members, and their boxes, if these are kept.
 pub record Held : Type 0 where
   pub numbers : List ℕ
   pub boxes : List Boxed
 
--- each box that is kept is the extent of its member
+-- each box is the extent of the member with its number
 abbrev pub AreKept : (ℕ → Extent) → Held → Type 0
-AreKept at held = AllByRecursion (λ b. b.extent ≡ at b.number) held.boxes
+AreKept at m = AllByRecursion (λ b. b.extent ≡ at b.number) m.boxes
 
 -- the extent of the member with a number, of a list in which it is
 abbrev pub extent_at : List Extent → ℕ → Extent

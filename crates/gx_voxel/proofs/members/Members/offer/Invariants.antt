@@ -1,7 +1,0 @@
-use Rattle.std.proofs.Common.{take}
-use Rattle.gx_offers.specs.Offers.{IsOffered}
-use Rattle.gx_voxel.proofs.members.Members.offer.Given as goal
-
--- the first members were offered, each of which is due
-abbrev pub invariant-loop-k : goal.invariant-loop-k
-invariant-loop-k l = IsOffered (λ k. Unit {0}) (take l.k-index l.k-items) l.fn.offers l.offers
