@@ -200,7 +200,7 @@ more-of boxes front back middle bounds old once twice new same half enclosed rea
     let part : Part = record { boxed = middle; bounds = bounds } in
     let whole = f.more ++ part ∷ b.more in
     let there : IsPermutation boxes (boxes_of whole) = subst (IsPermutation boxes) (sym (map-both (λ (p : Part). p.boxed) f.more (part ∷ b.more)))
-        (IsPermutation-trans boxes (front ++ middle ∷ back) (boxes_of f.more ++ middle ∷ boxes_of b.more) same (IsPermutation-append front (boxes_of f.more) (middle ∷ back) (middle ∷ boxes_of b.more) f.same (IsPermutation-cons middle back (boxes_of b.more) b.same))) in
+    (IsPermutation-trans boxes (front ++ middle ∷ back) (boxes_of f.more ++ middle ∷ boxes_of b.more) same (IsPermutation-append front (boxes_of f.more) (middle ∷ back) (middle ∷ boxes_of b.more) f.same (IsPermutation-cons middle back (boxes_of b.more) b.same))) in
     let all : (P : Boxed → Type 0) → All P boxes → AllByRecursion (λ (p : Part). P p.boxed) whole = λ P h. all-boxes P whole (recursion_from_All P (boxes_of whole) (All-permutation P boxes (boxes_of whole) there h)) in
     let middle_near = all-back (λ (p : Part). IsInReach p.boxed.extent) f.more (part ∷ b.more) (all (λ b. IsInReach b.extent) reach) in
     record {

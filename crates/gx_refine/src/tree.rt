@@ -1,10 +1,10 @@
 ghost use Rattle.std.specs.Prelude.{◌≡◌, [], ◌∷◌, ◌<◌, ◌≤◌, ◌<ℤ◌, length, IfOk};
 ghost use Rattle.std.specs.List.{All, range_with_len};
-ghost use Rattle.std.proofs.Common.{inl, inr};
-ghost use Rattle.gx_voxel.specs.Members.{AreMembers, extent_at};
+ghost use Rattle.std.proofs.Common.{inr};
+ghost use Rattle.gx_voxel.specs.Members.{extent_at};
 ghost use Rattle.gx_boxes.specs.Boxes.{IsProper};
 ghost use Rattle.gx_voxel.specs.Cells.{without};
-ghost use Rattle.gx_voxel.specs.Proxy.{content_of, axis_of, list_of, AreRuns, IsRun, StandsWithin, StandsFor};
+ghost use Rattle.gx_voxel.specs.Proxy.{content_of, axis_of, list_of, AreRuns, IsNode, IsRun, StandsWithin, StandsFor};
 ghost use Rattle.gx_refine.specs.Known.{AreKnown};
 
 use crate::best::cut;
@@ -47,10 +47,10 @@ fn refine(
     ensures { IfOk result (λ p. StandsWithin (extent_at extents.now) cuts p members.now axes.now) }
 {
     if cuts == 0 {
-        return node(alloc, members);
+        return node(alloc, extents, members);
     }
     let Some(cut) = cut(alloc, extents, members, axes)? else {
-        return node(alloc, members);
+        return node(alloc, extents, members);
     };
     let left = without(alloc, cut.axis, axes)?;
     let mut runs = Vec::new(alloc);
@@ -69,11 +69,11 @@ fn run_with(part: &Part, proxy: Proxy) -> Run
     Run::new(part.first, part.last, part.low, part.high, proxy)
 }
 
-fn node(alloc: Global, members: &[u32]) -> Result<Proxy, NoMemory>
-    requires { AreMembers members.now }
-    ensures { IfOk result (λ p. content_of p ≡ inl (record { numbers = members.now; boxes = [] })) }
+fn node(alloc: Global, extents: &[Extent], members: &[u32]) -> Result<Proxy, NoMemory>
+    requires { AreKnown extents.now members.now }
+    ensures { IfOk result (λ p. IsNode (extent_at extents.now) p members.now) }
 {
-    Ok(Proxy::Node(Members::new(Vec::from_slice(alloc, members)?)))
+    Ok(Proxy::Node(Members::boxed(alloc, Vec::from_slice(alloc, members)?, extents)?))
 }
 
 fn header(alloc: Global, axis: u8, runs: Vec<Run>) -> Result<Proxy, NoMemory>

@@ -10,8 +10,8 @@ pub loop-boxed-preserved : goal.loop-boxed-preserved
 loop-boxed-preserved c =
     let xs = c.args.boxes.now in let i = c.loop-boxed.boxed-index in let bounds = c.joined-bounds.result in (
       All-more (λ (b : Boxed). IsEnclosed bounds b.extent) xs i _ c.loop-boxed-test.true
-      (All-weaker (λ (b : Boxed). IsEnclosed c.loop-boxed.bounds b.extent) (λ (b : Boxed). IsEnclosed bounds b.extent) (λ b e. enclosed-trans bounds c.loop-boxed.bounds b.extent c.joined-bounds.ensures.first e) (take i xs) c.loop-boxed.invariant.0)
-      c.joined-bounds.ensures.second,
+          (All-weaker (λ (b : Boxed). IsEnclosed c.loop-boxed.bounds b.extent) (λ (b : Boxed). IsEnclosed bounds b.extent) (λ b e. enclosed-trans bounds c.loop-boxed.bounds b.extent c.joined-bounds.ensures.first e) (take i xs) c.loop-boxed.invariant.0)
+          c.joined-bounds.ensures.second,
       c.joined-bounds.ensures.reach,
     )
 

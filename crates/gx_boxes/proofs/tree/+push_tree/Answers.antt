@@ -15,7 +15,7 @@ none-more : (boxes : List Boxed) → boxes ≡ [] → IsPermutation boxes []
 none-more boxes none = subst (λ l. IsPermutation l []) (sym none) (record { moves = []; below = tt; is = refl })
 
 pub returns-then-is_empty : goal.returns-then-is_empty
-returns-then-is_empty t c = 
+returns-then-is_empty t c =
     let none = nil_from_length c.args.boxes.now (eqb-true (length c.args.boxes.now) 0 (sym c.is_empty.ensures ∙ c.if-is_empty.true)) in
     record { more = []; is = sym (append-nil c.args.parts.now.items); same = none-more c.args.boxes.now none; tree = tree-none }
 

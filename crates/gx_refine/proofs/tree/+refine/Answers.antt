@@ -1,8 +1,7 @@
-use Rattle.std.proofs.Common.{◌≡◌, ◌<◌, ◌-◌, ◌++◌, ◌∷◌, [], ℕ, List, inl, rules, arith, refl, sym, subst, ap, ◌∙◌, not}
+use Rattle.std.proofs.Common.{◌≡◌, ◌<◌, ◌-◌, ◌++◌, ◌∷◌, [], ℕ, List, inl, rules, arith, sym, subst, ap, ◌∙◌, not}
 use Rattle.std.specs.Prelude.{◌==◌}
 use Rattle.std.specs.List.{All}
 use Rattle.std.proofs.lemmas.List.Elements.{All-filter}
-use Rattle.gx_num.specs.declared.extent.Extent.{Extent}
 use Rattle.gx_voxel.specs.Members.{extent_at}
 use Rattle.gx_voxel.specs.Cells.{without}
 use Rattle.gx_voxel.specs.Proxy.{content_of, Alike, IsNode, IsRun, StandsWithin}
@@ -13,18 +12,15 @@ use Rattle.gx_refine.specs.Known.{AreKnown}
 use Rattle.gx_refine.proofs.Trees.{if_ok-map, known-cut, part-at, stands-last, stands-node, stands-cut, part-none, part-more, part-all}
 use Rattle.gx_refine.proofs.tree.+refine.Goals as goal
 
-plain : (at : ℕ → Extent) (ks : List ℕ) (p : Proxy) → content_of p ≡ inl (record { numbers = ks; boxes = [] }) → IsNode at p ks
-plain at ks p is = record { held = record { numbers = ks; boxes = [] }; is = is; numbers = refl; kept = tt }
-
 pub returns-then-cuts-eq0 : goal.returns-then-cuts-eq0
 returns-then-cuts-eq0 t c =
     let at = extent_at c.args.extents.now in let ks = c.args.members.now in let axes = c.args.axes.now in
-    if_ok-map (λ p. content_of p ≡ inl (record { numbers = ks; boxes = [] })) (λ p. StandsWithin at c.args.cuts p ks axes) c.node.result (λ p h. subst (λ n. StandsWithin at n p ks axes) (sym c.if-cuts-eq0.true) (stands-last at ks axes p (plain at ks p h))) c.node.ensures
+    if_ok-map (λ p. IsNode at p ks) (λ p. StandsWithin at c.args.cuts p ks axes) c.node.result (λ p h. subst (λ n. StandsWithin at n p ks axes) (sym c.if-cuts-eq0.true) (stands-last at ks axes p h)) c.node.ensures
 
 pub returns-in_default : goal.returns-in_default
 returns-in_default t c =
     let at = extent_at c.args.extents.now in let ks = c.args.members.now in let axes = c.args.axes.now in
-    if_ok-map (λ p. content_of p ≡ inl (record { numbers = ks; boxes = [] })) (λ p. StandsWithin at c.args.cuts p ks axes) c.node-in_default.result (λ p h. stands-node at ks axes p c.args.cuts (sym c.in_ok-cut.ensures ∙ c.in_default.is) (plain at ks p h)) c.node-in_default.ensures
+    if_ok-map (λ p. IsNode at p ks) (λ p. StandsWithin at c.args.cuts p ks axes) c.node-in_default.result (λ p h. stands-node at ks axes p c.args.cuts (sym c.in_ok-cut.ensures ∙ c.in_default.is) h) c.node-in_default.ensures
 
 pub loop-part-init : goal.loop-part-init
 loop-part-init t c = part-none (λ q ks. StandsWithin (extent_at c.args.extents.now) (c.args.cuts - 1) q ks c.in_ok-left.left.items) c.new-runs.result.items c.deref-part-items.result.now c.new-runs.ensures.items
