@@ -6,6 +6,8 @@ mod boxed;
 mod part;
 mod rejection;
 mod slab;
+#[cfg(test)]
+mod tests;
 mod tree;
 
 pub use boxed::Boxed;
