@@ -1,5 +1,5 @@
-mod Daughters
-mod Limits
+pub mod Daughters
+pub mod Limits
 mod Linked
 mod Lists
 mod Told

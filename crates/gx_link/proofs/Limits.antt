@@ -2,7 +2,7 @@
 use Rattle.std.proofs.Common.{◌≡◌, ℕ, suc, ◌+◌, ◌<◌, ◌≤◌, sym, ap, subst, inl, inr, refl, arith, nat_eq, List, [], ◌∷◌, length, All, None, eq-eqb}
 use Rattle.std.specs.Prelude.{sum_by}
 use Rattle.std.proofs.lemmas.Bool.{cases_eq, ne_eqb}
-use Rattle.std.proofs.lemmas.List.Elements.{All-nil, All-cons, All-filter, All-map, All-weaker}
+use Rattle.std.proofs.lemmas.List.Elements.{All-nil, All-cons, All-head, All-tail, All-filter, All-map}
 use Rattle.std.proofs.lemmas.List.Sums.{sum_by-cons}
 use Rattle.gx_tree.specs.declared.placement.Placement.{Placement}
 use Rattle.gx_tree.specs.Volume.{Volume, copies_of}
@@ -10,7 +10,6 @@ use Rattle.gx_tree.specs.Limits.{IsPlaceable, IsWithinLimits, instance_count}
 use Rattle.gx_link.specs.declared.link.LinkedVolume.{LinkedVolume}
 use Rattle.gx_link.specs.declared.link.LinkedPlacement.{LinkedPlacement}
 use Rattle.gx_link.specs.Crowd.{placed_in, placements_in, first_crowded}
-use Rattle.gx_link.specs.Build.{IsLinked}
 use Rattle.gx_link.specs.Text.{volumes_from}
 use Rattle.gx_link.proofs.Daughters.{daughters, daughters_in, uncrowded}
 
@@ -18,17 +17,18 @@ pub length-volumes_from : (ps : List LinkedPlacement) (v : ℕ) (volumes : List 
 length-volumes_from ps v [] = refl
 length-volumes_from ps v (volume ∷ volumes) = ap (λ n. suc n) (length-volumes_from ps (v + 1) volumes)
 
--- what holds of the placements in each mother
-each_volume : (P : List Placement → Type 0) (ps : List LinkedPlacement) → ((m : ℕ) → P (placements_in m ps)) → (v : ℕ) (volumes : List LinkedVolume)
-    → All (λ (u : Volume). P u.placements) (volumes_from ps v volumes)
-each_volume P ps all v [] = All-nil (λ (u : Volume). P u.placements)
-each_volume P ps all v (volume ∷ volumes) = All-cons (λ (u : Volume). P u.placements) _ (volumes_from ps (v + 1) volumes) (all v) (each_volume P ps all (v + 1) volumes)
+-- what holds of each volume with what is placed in it
+pub each_volume : (K : LinkedVolume → Type 0) (P : Volume → Type 0) (ps : List LinkedPlacement)
+    → ((u : LinkedVolume) (m : ℕ) → K u → P (record { name = u.name; solid = u.solid; material = u.material; placements = placements_in m ps })) → (v : ℕ) (us : List LinkedVolume) → All K us → All P (volumes_from ps v us)
+each_volume K P ps says v [] all = All-nil P
+each_volume K P ps says v (u ∷ us) all = All-cons P _ (volumes_from ps (v + 1) us) (says u v (All-head K u us all)) (each_volume K P ps says (v + 1) us (All-tail K u us all))
 
-placeable_in : (count m : ℕ) (ps : List LinkedPlacement) → All (IsLinked count) ps → All (IsPlaceable count) (placements_in m ps)
-placeable_in count m ps linked =
-    All-map (IsPlaceable count) (λ (p : LinkedPlacement). p.placement) (placed_in m ps)
-    (All-filter (λ (p : LinkedPlacement). nat_eq p.mother m) (λ (p : LinkedPlacement). IsPlaceable count p.placement) ps
-    (All-weaker (IsLinked count) (λ (p : LinkedPlacement). IsPlaceable count p.placement) (λ p (is : IsLinked count p). is.placeable) ps linked))
+each_mother : (P : List Placement → Type 0) (ps : List LinkedPlacement) → ((m : ℕ) → P (placements_in m ps)) → (us : List LinkedVolume) → All (λ (u : Volume). P u.placements) (volumes_from ps 0 us)
+each_mother P ps says us = each_volume (λ _. Unit {0}) (λ (u : Volume). P u.placements) ps (λ u m _. says m) 0 us (λ k d less. tt)
+
+-- what holds of each placement
+pub each_in : (P : Placement → Type 0) (ps : List LinkedPlacement) → All (λ (p : LinkedPlacement). P p.placement) ps → (m : ℕ) → All P (placements_in m ps)
+each_in P ps all m = All-map P (λ (p : LinkedPlacement). p.placement) (placed_in m ps) (All-filter (λ (p : LinkedPlacement). nat_eq p.mother m) (λ (p : LinkedPlacement). P p.placement) ps all)
 
 -- ---- all daughters, counted by their mothers
 abbrev total : List LinkedPlacement → ℕ → List LinkedVolume → ℕ
@@ -70,14 +70,14 @@ total-daughters : (ps : List LinkedPlacement) (v : ℕ) (volumes : List LinkedVo
 total-daughters [] v volumes = omega (arith, total_none v volumes)
 total-daughters (p ∷ ps) v volumes = omega (arith, total_more p ps v volumes, total-daughters ps v volumes, sum_by-cons (λ (q : LinkedPlacement). copies_of q.placement) p ps)
 
-pub within_limits : (ps : List LinkedPlacement) (volumes : List LinkedVolume) → length volumes ≤ 4096 → All (IsLinked (length volumes)) ps → first_crowded [] ps ≡ None
+pub within_limits : (ps : List LinkedPlacement) (volumes : List LinkedVolume) → length volumes ≤ 4096 → All (λ (p : LinkedPlacement). IsPlaceable (length volumes) p.placement) ps → first_crowded [] ps ≡ None
     → IsWithinLimits (volumes_from ps 0 volumes)
-within_limits ps volumes few linked none =
+within_limits ps volumes few placeable none =
     let long : length (volumes_from ps 0 volumes) ≡ length volumes = length-volumes_from ps 0 volumes in
     let counts = uncrowded ps none in
     record {
       few = omega arith;
-      placeable = each_volume (All (IsPlaceable (length (volumes_from ps 0 volumes)))) ps (λ m. placeable_in (length (volumes_from ps 0 volumes)) m ps (subst (λ n. All (IsLinked n) ps) (sym long) linked)) 0 volumes;
-      each = each_volume (λ placements. sum_by copies_of placements ≤ 4096) ps counts.each 0 volumes;
+      placeable = each_mother (All (IsPlaceable (length (volumes_from ps 0 volumes)))) ps (each_in (IsPlaceable (length (volumes_from ps 0 volumes))) ps (subst (λ n. All (λ (p : LinkedPlacement). IsPlaceable n p.placement) ps) (sym long) placeable)) volumes;
+      each = each_mother (λ placements. sum_by copies_of placements ≤ 4096) ps counts.each volumes;
       all = omega (arith, total-daughters ps 0 volumes, counts.all);
     }

@@ -58,10 +58,10 @@ same_place w h x i j weight below_i above_i below_j above_j = elim (cases_lt i j
 
 -- ---- the cells of the world
 
-pub row_below : (n k : ℕ) → 1 ≤ n → k < n * n → k / n < n
+row_below : (n k : ℕ) → 1 ≤ n → k < n * n → k / n < n
 row_below n k some less = (div-lt_iff_lt-mul some).1 (omega (arith, less))
 
-abbrev pub cell : ℕ → ℕ → Instance
+abbrev cell : ℕ → ℕ → Instance
 cell n k = instance_of (cells n) k
 
 world_cells : (n : ℕ) → instances (sample_tree n) 0 ≡ map (cell n) (range_with_len 0 (n * n))
@@ -85,7 +85,7 @@ cells_disjoint n k l some less p weight one other =
     omega (arith, less, column, rows, some)
 
 -- what holds of each cell
-pub each_cell : (n : ℕ) (P : Instance → Type 0) → ((k : ℕ) → k < n * n → P (cell n k)) → All P (instances (sample_tree n) 0)
+each_cell : (n : ℕ) (P : Instance → Type 0) → ((k : ℕ) → k < n * n → P (cell n k)) → All P (instances (sample_tree n) 0)
 each_cell n P holds = subst (All P) (sym (world_cells n)) (All-map P (cell n) (range_with_len 0 (n * n)) (λ k d less.
     let below : k < n * n = omega (arith, length-range_with_len 0 (n * n)) in
     let number : get_or (range_with_len 0 (n * n)) k d < n * n = omega (arith, get_or-range_with_len 0 (n * n) k d below) in
@@ -105,7 +105,7 @@ unfolding instances_of
 cell_core n = refl
 
 -- what holds of the core
-pub each_core : (n : ℕ) (P : Instance → Type 0) → P (instance_of core 0) → All P (instances (sample_tree n) 1)
+each_core : (n : ℕ) (P : Instance → Type 0) → P (instance_of core 0) → All P (instances (sample_tree n) 1)
 each_core n P holds = subst (All P) (sym (cell_core n)) (All-cons P (instance_of core 0) [] holds (All-nil P))
 
 core_contained : (n : ℕ) → IsContainedIn (sample_tree n) 1 (instance_of core 0)

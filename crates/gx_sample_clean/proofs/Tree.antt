@@ -1,5 +1,5 @@
 -- A sample's hierarchy keeps what each hierarchy does: it is within the limits, of solids, not too deep, and its instances are near.
-use Rattle.std.proofs.Common.{◌≡◌, ℕ, zero, suc, ◌*◌, ◌/◌, ◌%◌, ◌<◌, ◌≤◌, ℤ, pos, ◌+ℤ◌, unsigned_abs, true, false, List, [], ◌∷◌, None, Ok, All, refl, arith}
+use Rattle.std.proofs.Common.{◌≡◌, ℕ, zero, suc, ◌*◌, ◌<◌, ◌≤◌, ℤ, pos, ◌+ℤ◌, unsigned_abs, true, false, List, [], ◌∷◌, None, Ok, All, refl, arith}
 use Rattle.std.specs.Prelude.{int_le, nat_le}
 use Rattle.std.proofs.Math.Nat.{mul-le-mul}
 use Rattle.std.proofs.lemmas.Int.{ints}
@@ -13,13 +13,14 @@ use Rattle.gx_shapes.specs.Solid.{kind_of, whole_fault}
 use Rattle.gx_shapes.specs.Accepted.{all_of, IsSolid}
 use Rattle.gx_rotation.specs.Matrix.{identity}
 use Rattle.gx_rotation.specs.Rotation.{matrix_of}
-use Rattle.gx_tree.specs.Volume.{Volume}
-use Rattle.gx_tree.specs.Hierarchy.{volume_at, instances, leads, max_depth, IsRotation, IsInstance}
+use Rattle.gx_tree.specs.declared.placement.Placement.{Placement}
+use Rattle.gx_tree.specs.Volume.{Volume, rotation_of}
+use Rattle.gx_tree.specs.Hierarchy.{volume_at, IsRotation}
 use Rattle.gx_tree.specs.Limits.{IsRow, IsPlaceable, IsWithinLimits, instance_count}
 use Rattle.gx_tree.specs.Fault.{IsTree}
+use Rattle.gx_tree.proofs.Tree.{is_tree}
 use Rattle.gx_sample_clean.specs.Sample.{half, first, cells, core, world_solid, cell_solid, core_solid, sample_volumes, sample_tree}
 use Rattle.gx_sample_clean.proofs.Linked.{formed}
-use Rattle.gx_sample_clean.proofs.Clean.{cell, row_below, each_cell, each_core}
 
 -- what holds of the world, of the cell and of the core
 each_volume : (n : ℕ) (P : Volume → Type 0) → P (volume_at (sample_volumes n) 0) → P (volume_at (sample_volumes n) 1) → P (volume_at (sample_volumes n) 2) → All P (sample_volumes n)
@@ -73,41 +74,17 @@ solids n few =
     (solid_of_values cell_solid (pos 10 ∷ pos 10 ∷ pos 50 ∷ []) 3 refl refl)
     (solid_of_values core_solid (pos 4 ∷ pos 8 ∷ pos 4 ∷ pos 8 ∷ pos 40 ∷ []) 5 refl refl)
 
--- ---- depth
-
-shallow : (n v : ℕ) → leads (sample_volumes n) (suc max_depth) 0 v ≡ false
-unfolding leads max_depth
-shallow n v = refl
-
--- ---- instances
+-- ---- rotations
 
 unturned : IsRotation identity
 unfolding matrix_of
 unturned = record { index = 0; below = omega arith; same = refl }
 
-cell_placed : (n k : ℕ) → 1 ≤ n → n ≤ 64 → k < n * n → IsInstance (sample_tree n) (cell n k)
-cell_placed n k some few less =
-    let places = row n some few in
-    let column : k % n < n = omega arith in
-    record {
-      volume = omega arith;
-      rotation = unturned;
-      offset = record { x = places.near (k % n) column; y = places.near (k / n) (row_below n k some less); z = omega arith };
-    }
-
-placed : (n v : ℕ) → 1 ≤ n → n ≤ 64 → All (IsInstance (sample_tree n)) (instances (sample_tree n) v)
-placed n zero some few = each_cell n (IsInstance (sample_tree n)) (λ k less. cell_placed n k some few less)
-placed n (suc zero) some few =
-    each_core n (IsInstance (sample_tree n)) (record { volume = omega arith; rotation = unturned; offset = record { x = omega arith; y = omega arith; z = omega arith } })
-placed n (suc (suc zero)) some few = All-nil (IsInstance (sample_tree n))
-placed n (suc (suc (suc v))) some few = All-nil (IsInstance (sample_tree n))
+turned : (n : ℕ) → All (λ v. All (λ p. IsRotation (rotation_of p)) v.placements) (sample_volumes n)
+turned n =
+    let none = All-nil (λ p. IsRotation (rotation_of p)) in
+    let one : (p : Placement) → IsRotation (rotation_of p) → All (λ p. IsRotation (rotation_of p)) (p ∷ []) = λ p is. All-cons (λ p. IsRotation (rotation_of p)) p [] is none in
+    each_volume n (λ v. All (λ p. IsRotation (rotation_of p)) v.placements) (one (cells n) unturned) (one core unturned) none
 
 pub tree : (n : ℕ) → 1 ≤ n → n ≤ 64 → IsTree (sample_tree n)
-tree n some few = record {
-  limits = limits n some few;
-  formed = formed n;
-  world = omega arith;
-  solids = solids n few;
-  shallow = shallow n;
-  placed = λ v. placed n v some few;
-}
+tree n some few = is_tree (sample_volumes n) 0 (limits n some few) (formed n) (solids n few) (turned n)

@@ -1,13 +1,13 @@
-mod Cells
+pub mod Cells
 mod Counts
 mod Descent
-mod Formed
+pub mod Formed
 mod Judged
 mod Leads
 mod Marks
 mod Numbers
 mod Ordinals
-mod Placed
+pub mod Placed
 mod Roots
 mod Search
-mod Tree
+pub mod Tree

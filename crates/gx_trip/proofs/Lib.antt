@@ -1,14 +1,10 @@
 mod Again
-mod Cells
 mod Crowd
 mod Declared
-mod Formed
 mod Gathers
 mod Linked
 mod Names
-mod Placed
 mod ReadInput
 mod Resolved
 mod RoundTrip
 mod Steps
-mod Tree

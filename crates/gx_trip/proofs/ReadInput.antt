@@ -13,6 +13,8 @@ use Rattle.gx_tree.specs.Volume.{Volume, rotation_of}
 use Rattle.gx_tree.specs.Hierarchy.{Hierarchy, IsRotation}
 use Rattle.gx_tree.specs.Limits.{IsPlaceable, IsWithinLimits}
 use Rattle.gx_tree.specs.Fault.{hierarchy_of, IsTree}
+use Rattle.gx_tree.proofs.Formed.{formed}
+use Rattle.gx_tree.proofs.Tree.{is_tree}
 use Rattle.gx_decl.specs.Range.{IsTraceable}
 use Rattle.gx_gather.specs.declared.fault.TextFault.{TextFault}
 use Rattle.gx_gather.specs.declared.rays.TheConstants.{MAX_RAYS}
@@ -24,6 +26,7 @@ use Rattle.gx_link.specs.declared.link.LinkedPlacement.{LinkedPlacement}
 use Rattle.gx_link.specs.Crowd.{placements_in, first_crowded}
 use Rattle.gx_link.specs.Links.{Links, no_links, links_of, known_of}
 use Rattle.gx_link.specs.Text.{volumes_from, unless_crowded, on_tree, tree_of, input_of}
+use Rattle.gx_link.proofs.Limits.{each_volume, each_in, within_limits}
 use Rattle.gx_canon.specs.Printable.{IsPrintablePlacement, IsPrintableVolume}
 use Rattle.gx_canon.specs.Laws.{WordsAreWords, Kept}
 use Rattle.gx_reader.specs.declared.reader.TheConstants.{MAX_TEXT}
@@ -32,8 +35,6 @@ use Rattle.gx_trip.proofs.Names.{AreNew}
 use Rattle.gx_trip.proofs.Steps.{steps, otherwise}
 use Rattle.gx_trip.proofs.Declared.{IsFigureKept, IsItemKept, AreKept, lines_kept}
 use Rattle.gx_trip.proofs.Linked.{IsVolumeKept, IsPlacedKept, AreLinksKept, names_of, lines_linked}
-use Rattle.gx_trip.proofs.Crowd.{each_volume, each_in, within_limits}
-use Rattle.gx_trip.proofs.Tree.{is_tree, own_volumes}
 
 abbrev pub volume_names_of : List Volume → List (List ℕ)
 volume_names_of volumes = map (λ (v : Volume). v.name) volumes
@@ -97,9 +98,9 @@ module _ (links : Links) (names : List (List ℕ)) (few : length names ≤ 4096)
   read_tree h e =
       let s = steps (unless_crowded (first_crowded [] links.placements)) (λ _. on_tree links (hierarchy_of volumes)) h e in
       let is = on_tree-ok links (hierarchy_of volumes) h s.rest in
-      let same = own_volumes volumes h is in
+      let same = (formed volumes h is).same in
       record {
-        tree = is_tree h (subst IsWithinLimits same (limits (no_crowd _ s.first s.is))) (subst (λ (vs : List Volume). hierarchy_of vs ≡ Ok h) same is)
+        tree = is_tree h.volumes h.world (subst IsWithinLimits same (limits (no_crowd _ s.first s.is))) (subst (λ (vs : List Volume). hierarchy_of vs ≡ Ok h) same is)
             (subst (All (λ (v : Volume). IsSolid v.solid)) same solids) (subst (All (λ (v : Volume). All (λ p. IsRotation (rotation_of p)) v.placements)) same turned);
         printable = subst (All IsPrintableVolume) same printable;
         named = ap volume_names_of (sym same) ∙ names-volumes_from links.placements 0 links.volumes ∙ are.named;

@@ -35,7 +35,8 @@ use Rattle.gx_canon.specs.Canonical.{rotation_name, rotation_number, form_of, is
 use Rattle.gx_canon.specs.Laws.{IsNamed}
 use Rattle.gx_trip.proofs.Names.{AreNew, number_at, value_at}
 use Rattle.gx_trip.proofs.ReadInput.{volume_names_of}
-use Rattle.gx_trip.proofs.Crowd.{daughters_in, daughters, daughters-append, placements_in-append, IsUncrowded}
+use Rattle.gx_link.proofs.Daughters.{daughters_in, daughters, IsUncrowded}
+use Rattle.gx_trip.proofs.Crowd.{daughters-append, placements_in-append}
 use Rattle.gx_trip.proofs.Gathers.{turns_of, volume_items, lines_in, lines_of, item_of}
 
 -- ---- volumes

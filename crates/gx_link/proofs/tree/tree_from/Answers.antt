@@ -1,6 +1,7 @@
 use Rattle.std.proofs.Common.{◌≡◌, ◌≤◌, ◌∙◌, [], List, length, All, sym, ap, subst, None}
 use Rattle.std.proofs.lemmas.List.{length-map}
-use Rattle.gx_tree.specs.Limits.{IsWithinLimits}
+use Rattle.std.proofs.lemmas.List.Elements.{All-weaker}
+use Rattle.gx_tree.specs.Limits.{IsPlaceable, IsWithinLimits}
 use Rattle.gx_tree.specs.declared.fault.TreeError.TheVariants.{Fault}
 use Rattle.gx_tree.specs.Fault.{hierarchy_of, IsTreeCause}
 use Rattle.gx_link.specs.declared.link.LinkedVolume.{LinkedVolume}
@@ -19,8 +20,9 @@ new-requires c =
     let ps = c.links.inside.placements.items in
     let few : length volumes ≤ 4096 = subst (λ (l : Links). length l.volumes ≤ 4096) (sym c.links.view_is) c.requires.few in
     let linked : All (IsLinked (length volumes)) ps = subst (λ (l : Links). All (IsLinked (length l.volumes)) l.placements) (sym c.links.view_is) c.requires.linked in
+    let placeable = All-weaker (IsLinked (length volumes)) (λ (p : LinkedPlacement). IsPlaceable (length volumes) p.placement) (λ p (is : IsLinked (length volumes) p). is.placeable) ps linked in
     let none : first_crowded [] ps ≡ None = ap (first_crowded []) (sym c.deref.ensures.value) ∙ sym c.in_ok-line.ensures ∙ c.in_default.is in
-    subst IsWithinLimits (ap (λ (qs : List LinkedPlacement). volumes_from qs 0 volumes) (sym c.deref-3.ensures.value) ∙ sym c.in_ok-volumes.ensures) (within_limits ps volumes few linked none)
+    subst IsWithinLimits (ap (λ (qs : List LinkedPlacement). volumes_from qs 0 volumes) (sym c.deref-3.ensures.value) ∙ sym c.in_ok-volumes.ensures) (within_limits ps volumes few placeable none)
 
 pub fault_of_tree-requires : goal.fault_of_tree-requires
 fault_of_tree-requires c =
