@@ -10,8 +10,7 @@ use Rattle.gx_offers.specs.Offers.{AnyByRecursion}
 use Rattle.gx_voxel.specs.declared.proxy.Header.{Header}
 use Rattle.gx_voxel.specs.Proxy.{list_of}
 use Rattle.gx_along.specs.declared.line.Stretch.{Stretch}
-use Rattle.gx_along.specs.declared.runs.Seen.{Seen}
-use Rattle.gx_along.specs.Line.{time, near, is_left, is_entered, IsStretch, IsPart}
+use Rattle.gx_along.specs.Line.{Seen, time, near, is_left, is_entered, IsStretch, IsPart}
 use Rattle.gx_along.specs.Runs.{IsRising, HasRuns, is_before, low_at, high_at}
 use Rattle.gx_along.specs.Along.{IsExact, index_of, left_of, is_entered_at, part_at}
 use Rattle.gx_along.specs.Walked.{Walks, walked}

@@ -6,8 +6,7 @@ use Rattle.gx_offers.specs.Offers.{AnyByRecursion}
 use Rattle.gx_voxel.specs.declared.proxy.Header.{Header}
 use Rattle.gx_voxel.specs.Proxy.{list_of}
 use Rattle.gx_along.specs.declared.line.Stretch.{Stretch}
-use Rattle.gx_along.specs.declared.runs.Seen.{Seen}
-use Rattle.gx_along.specs.Line.{is_entered, part_of, IsWithin, IsInRun, IsPart}
+use Rattle.gx_along.specs.Line.{Seen, is_entered, part_of, IsWithin, IsInRun, IsPart}
 use Rattle.gx_along.specs.Runs.{low_at, high_at}
 
 -- the j-th run along the ray, from the place that the search gave, and how many are left there

@@ -59,3 +59,8 @@ pub record IsPart (o d low high : ℤ) (s part : Stretch) : Type 0 where
   pub stretch : IsStretch part
   pub inside : (t : RayParameter) → 0 < t.den → IsWithin part t → IsWithin s t × IsInRun o d low high t
   pub whole : (t : RayParameter) → 0 < t.den → IsWithin s t → IsInRun o d low high t → IsUpTo (time part.from) t × IsUpTo t (time part.to)
+
+-- A run gone into, and the part of the stretch in it.
+pub record Seen : Type 0 where
+  pub index : ℕ
+  pub part : Stretch

@@ -3,8 +3,7 @@ use Rattle.std.specs.Prelude.{◌≡◌, ◌⊎◌, ◌≤◌, ◌<◌, ℕ, zer
 use Rattle.gx_voxel.specs.declared.proxy.Header.{Header}
 use Rattle.gx_voxel.specs.Proxy.{list_of}
 use Rattle.gx_along.specs.declared.line.Stretch.{Stretch}
-use Rattle.gx_along.specs.declared.runs.Seen.{Seen}
-use Rattle.gx_along.specs.Line.{time}
+use Rattle.gx_along.specs.Line.{Seen, time}
 use Rattle.gx_along.specs.Runs.{is_before}
 use Rattle.gx_along.specs.Along.{index_of, left_of, is_entered_at, part_at}
 

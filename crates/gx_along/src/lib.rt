@@ -9,5 +9,5 @@ mod search;
 mod tests;
 
 pub use line::{Bounds, Line, Stretch, Time, is_entered, is_left, part};
-pub use runs::{Seen, along, index_of, left_of, step};
-pub use search::{first_left, read_bounds};
+pub use runs::{index_of, left_of};
+pub use search::first_left;

@@ -10,7 +10,7 @@ use gx_voxel::{Header, Run};
 use std::sync::ledger::Ledger;
 
 // The bounds of a run.
-pub fn read_bounds<L: Ledger>(header: &Header, i: u32, reads: &mut Steps<L>) -> Bounds
+fn read_bounds<L: Ledger>(header: &Header, i: u32, reads: &mut Steps<L>) -> Bounds
     requires rising { IsRising header.now }
     requires i { i < length (list_of header.now) }
     ensures low { result.low ≡ low_at header.now i }

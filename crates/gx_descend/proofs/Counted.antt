@@ -6,10 +6,10 @@ use Rattle.gx_voxel.specs.Cells.{Cell}
 use Rattle.gx_voxel.specs.Cut.{SliceRun}
 use Rattle.gx_voxel.specs.Proxy.{list_of}
 use Rattle.gx_voxel.specs.declared.proxy.Header.{Header}
+use Rattle.gx_along.specs.Line.{Seen}
 use Rattle.gx_along.specs.Along.{index_of, left_of, part_at}
 use Rattle.gx_along.specs.Walked.{Walks, walked}
 use Rattle.gx_along.specs.declared.line.Stretch.{Stretch}
-use Rattle.gx_along.specs.declared.runs.Seen.{Seen}
 use Rattle.gx_descend.proofs.Placed.{no_run}
 
 pub sum-flat : (F : Cell → ℕ) (f : SliceRun → List Cell) (runs : List SliceRun) → sum_by F (flat_map f runs) ≡ sum_by (λ run. sum_by F (f run)) runs

@@ -16,11 +16,10 @@ use Rattle.gx_voxel.specs.declared.proxy.Header.{Header}
 use Rattle.gx_voxel.specs.declared.proxy.Run.{Run}
 use Rattle.gx_along.specs.Along.{index_of, left_of, is_entered_at, part_at}
 use Rattle.gx_along.specs.Digits.{digits}
-use Rattle.gx_along.specs.Line.{time, is_left, is_entered, part_of, IsStretch}
+use Rattle.gx_along.specs.Line.{Seen, time, is_left, is_entered, part_of, IsStretch}
 use Rattle.gx_along.specs.Runs.{IsRising, HasRuns, is_before, low_at, high_at}
 use Rattle.gx_along.specs.Walked.{walked, Walks}
 use Rattle.gx_along.specs.declared.line.Stretch.{Stretch}
-use Rattle.gx_along.specs.declared.runs.Seen.{Seen}
 use Rattle.gx_along.proofs.Ahead.{ahead}
 use Rattle.gx_along.proofs.Before.{read}
 use Rattle.gx_along.proofs.Stretches.{part-is-part}

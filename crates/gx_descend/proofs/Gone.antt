@@ -17,10 +17,9 @@ use Rattle.gx_voxel.specs.declared.proxy.Header.{Header}
 use Rattle.gx_along.specs.Along.{IsExact}
 use Rattle.gx_along.specs.Bounds.{tests_within, reads_within, IsBoxTest}
 use Rattle.gx_along.specs.Digits.{digits}
-use Rattle.gx_along.specs.Line.{IsStretch, IsPart}
+use Rattle.gx_along.specs.Line.{Seen, IsStretch, IsPart}
 use Rattle.gx_along.specs.Runs.{low_at, high_at}
 use Rattle.gx_along.specs.declared.line.Stretch.{Stretch}
-use Rattle.gx_along.specs.declared.runs.Seen.{Seen}
 use Rattle.gx_along.proofs.Exact.{exact}
 use Rattle.gx_descend.specs.Descent.{IsDue}
 use Rattle.gx_descend.specs.Crossed.{IsAlong, IsDescendedWithin, Descends, GoesInto, Crosses}

@@ -1,6 +1,5 @@
 -- A member that is due in a stretch is due in the part of a run gone into that has it.
-use Rattle.std.proofs.Common.{◌≡◌, ◌⊎◌, ℕ, ◌<◌, inl, inr, refl, sym, subst, arith, ℤ, pos, ◌+ℤ◌, ◌*ℤ◌, ◌≤ℤ◌, ◌<ℤ◌, Bool, true, false, List, [], ◌∷◌, length}
-use Rattle.std.specs.Prelude.{◌==◌, if◌then◌else◌}
+use Rattle.std.proofs.Common.{◌≡◌, ◌⊎◌, ℕ, ◌<◌, inl, inr, refl, sym, subst, arith, ℤ, pos, ◌*ℤ◌, ◌≤ℤ◌, ◌<ℤ◌, List, [], ◌∷◌, length}
 use Rattle.std.specs.List.{AllByRecursion}
 use Rattle.std.proofs.lemmas.Int.{ints}
 use Rattle.gx_num.specs.Ray.{RayParameter, IsBelow, IsUpTo, point_of_ray}
@@ -9,15 +8,15 @@ use Rattle.gx_num.specs.declared.extent.Extent.{Extent}
 use Rattle.gx_num.specs.declared.ray.Ray.{Ray}
 use Rattle.gx_offers.specs.Offers.{AnyByRecursion, IsOneOf}
 use Rattle.gx_voxel.specs.Cut.{Cut, SliceRun, coordinate}
-use Rattle.gx_voxel.specs.Cells.{IsInSide, coordinate4, side_of}
+use Rattle.gx_voxel.specs.Cells.{IsInSide, side_of}
 use Rattle.gx_voxel.specs.Proxy.{list_of}
 use Rattle.gx_voxel.specs.declared.proxy.Header.{Header}
 use Rattle.gx_voxel.proofs.Covered.{InRun, in-cut}
+use Rattle.gx_voxel.proofs.OnAxis.{on-axis}
 use Rattle.gx_along.specs.Along.{IsExact}
-use Rattle.gx_along.specs.Line.{time, IsInRun, IsWithin, IsStretch, IsPart}
+use Rattle.gx_along.specs.Line.{Seen, time, IsInRun, IsWithin, IsStretch, IsPart}
 use Rattle.gx_along.specs.Runs.{low_at, high_at}
 use Rattle.gx_along.specs.declared.line.Stretch.{Stretch}
-use Rattle.gx_along.specs.declared.runs.Seen.{Seen}
 use Rattle.gx_descend.specs.Descent.{IsDue}
 use Rattle.gx_descend.proofs.Placed.{IsHeaderOf, no_run, run_at, place-of, count, low-is, high-is}
 
@@ -56,15 +55,6 @@ pub some-point : (s : Stretch) → IsStretch s → (t : RayParameter) × (0 < t.
 some-point s ok = (mediant (time s.from) (time s.to), (positive_mediant (time s.from) (time s.to) ok.0 ok.2).1, (above_mediant (time s.from) (time s.to) ok.2, below_mediant (time s.from) (time s.to) ok.2))
 
 -- ---- a ray in a run, by its coordinate and as a point in a side
-on-axis : (ray : Ray) (t : RayParameter) (axis : ℕ) → coordinate4 axis (point_of_ray ray t) ≡ pos t.den *ℤ coordinate axis ray.o +ℤ pos t.num *ℤ coordinate axis ray.d
-on-axis ray t axis = go (axis == 0) (axis == 1)
-  where
-    go : (a b : Bool) → (if a then (point_of_ray ray t).x else if b then (point_of_ray ray t).y else (point_of_ray ray t).z)
-        ≡ pos t.den *ℤ (if a then ray.o.x else if b then ray.o.y else ray.o.z) +ℤ pos t.num *ℤ (if a then ray.d.x else if b then ray.d.y else ray.d.z)
-    go true b = refl
-    go false true = refl
-    go false false = refl
-
 abbrev pub RayIn : Ray → ℕ → ℤ → ℤ → RayParameter → Type 0
 RayIn ray axis low high t = IsInRun (coordinate axis ray.o) (coordinate axis ray.d) low high t
 

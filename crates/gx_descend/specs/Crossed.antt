@@ -14,10 +14,9 @@ use Rattle.gx_voxel.specs.declared.proxy.Header.{Header}
 use Rattle.gx_voxel.specs.declared.proxy.Run.{Run}
 use Rattle.gx_along.specs.Bounds.{tests_within, reads_within, IsBoxTest}
 use Rattle.gx_along.specs.Digits.{digits}
-use Rattle.gx_along.specs.Line.{IsWithin}
+use Rattle.gx_along.specs.Line.{Seen, IsWithin}
 use Rattle.gx_along.specs.Walked.{Walks}
 use Rattle.gx_along.specs.declared.line.Stretch.{Stretch}
-use Rattle.gx_along.specs.declared.runs.Seen.{Seen}
 use Rattle.gx_descend.specs.Descent.{IsDue}
 
 -- all points of the ray in the stretch are in the box

@@ -1,5 +1,5 @@
 -- Going from copy to copy along the ray offers exactly those whose slab is met.
-use Rattle.std.proofs.Common.{◌≡◌, ◌∙◌, refl, sym, ap, subst, true≢false, inl, inr, ℕ, zero, suc, ◌+◌, ◌-◌, ◌<◌, ◌≤◌, Bool, true, false, ℤ, pos, ◌+ℤ◌, ◌*ℤ◌, ◌≤ℤ◌, ◌<ℤ◌, List, [], ◌∷◌, length, map, ◌==◌, unsigned_abs, arith}
+use Rattle.std.proofs.Common.{◌≡◌, ◌∙◌, refl, sym, ap, subst, true≢false, inl, inr, ℕ, ◌+◌, ◌-◌, ◌<◌, ◌≤◌, Bool, true, false, ℤ, pos, ◌+ℤ◌, ◌*ℤ◌, ◌≤ℤ◌, ◌<ℤ◌, List, [], ◌∷◌, length, map, ◌==◌, unsigned_abs, arith}
 use Rattle.std.specs.Prelude.{int_lt, sum_by, if◌then◌else◌}
 use Rattle.std.specs.List.{range_with_len}
 use Rattle.std.proofs.lemmas.Bool.{cases_lt, cond_both, false_from_ne_true}
@@ -13,7 +13,8 @@ use Rattle.gx_num.proofs.Order.{mediant, above_mediant, below_mediant}
 use Rattle.gx_offers.specs.Offers.{Offered, IsOneOf}
 use Rattle.gx_offers.proofs.Offered.{wider}
 use Rattle.gx_voxel.specs.Cut.{coordinate}
-use Rattle.gx_voxel.specs.Cells.{Side, Cell, IsInSide, coordinate4}
+use Rattle.gx_voxel.specs.Cells.{Side, Cell, IsInSide}
+use Rattle.gx_voxel.proofs.OnAxis.{on-axis}
 use Rattle.gx_along.specs.declared.line.Stretch.{Stretch}
 use Rattle.gx_along.specs.Line.{time, IsInRun, IsStretch, part_of}
 use Rattle.gx_along.specs.Bounds.{tests_within}
@@ -44,13 +45,6 @@ module _ (r : Row) where
 tests-is : (met : List Side → Bool) (box : ℕ → List Side) (ks : List ℕ) → tests_within met (map (λ k. record { box = box k; members = k ∷ [] }) ks) ≡ sum_by (λ k. if met (box k) then 1 else 0) ks
 tests-is met box ks = fold-map (λ n (c : Cell). n + (if met c.box then length c.members else 0)) (λ k. record { box = box k; members = k ∷ [] }) 0 ks
 
--- a coordinate of a point of the ray
-on-line : (axis : ℕ) → axis < 3 → (ray : Ray) (t : RayParameter) → coordinate4 axis (point_of_ray ray t) ≡ pos t.den *ℤ coordinate axis ray.o +ℤ pos t.num *ℤ coordinate axis ray.d
-on-line zero less ray t = refl
-on-line (suc zero) less ray t = refl
-on-line (suc (suc zero)) less ray t = refl
-on-line (suc (suc (suc n))) less ray t = absurd (omega (arith, less))
-
 pub within-coordinate : (axis bound : ℕ) (v : V3) → vector.IsWithin bound v → unsigned_abs (coordinate axis v) ≤ bound
 within-coordinate axis bound v within =
     let P : ℤ → Type 0 = λ z. unsigned_abs z ≤ bound in
@@ -67,10 +61,10 @@ module _ (axis : ℕ) (low width : ℤ) (count : ℕ) (ray : Ray) (s : Stretch) 
   IsInCopy k t = IsInRun row.line.o row.line.d (start_of row k) (start_of row (k + 1)) t
 
   in-copy : (k : ℕ) (t : RayParameter) → IsInSide (point_of_ray ray t) (slab k) → IsInCopy k t
-  in-copy k t is = subst (λ (at : ℤ). ((start_of row k *ℤ pos t.den) ≤ℤ at) × (at <ℤ (start_of row (k + 1) *ℤ pos t.den))) (on-line axis direction ray t) is
+  in-copy k t is = subst (λ (at : ℤ). ((start_of row k *ℤ pos t.den) ≤ℤ at) × (at <ℤ (start_of row (k + 1) *ℤ pos t.den))) (on-axis ray t axis) is
 
   in-slab : (k : ℕ) (t : RayParameter) → IsInCopy k t → IsInSide (point_of_ray ray t) (slab k)
-  in-slab k t is = subst (λ (at : ℤ). ((start_of row k *ℤ pos t.den) ≤ℤ at) × (at <ℤ (start_of row (k + 1) *ℤ pos t.den))) (sym (on-line axis direction ray t)) is
+  in-slab k t is = subst (λ (at : ℤ). ((start_of row k *ℤ pos t.den) ≤ℤ at) × (at <ℤ (start_of row (k + 1) *ℤ pos t.den))) (sym (on-axis ray t axis)) is
 
   module _ (is : IsRow row) (old new : Offered) (along : AreOfferedAlong row s old new) where
     abbrev copies : List ℕ
