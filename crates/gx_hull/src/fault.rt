@@ -1,3 +1,4 @@
+use gx_num::NoMemory;
 use std::alloc::{AllocError, AllocFailed};
 
 /// Why points have no hull.
@@ -28,6 +29,17 @@ impl<T: Drop> From<AllocFailed<T>> for HullFault {
     ghost from_gives = { λ _ e. e ≡ NoMemory };
 
     fn from(_: AllocFailed<T>) -> Self {
+        HullFault::NoMemory
+    }
+}
+
+impl From<NoMemory> for HullFault {
+    ghost use Rattle.std.specs.Prelude.{◌≡◌};
+    ghost use Rattle.gx_hull.specs.declared.fault.HullFault.TheVariants.{NoMemory as Wanting};
+
+    ghost from_gives = { λ _ e. e ≡ Wanting };
+
+    fn from(_: NoMemory) -> Self {
         HullFault::NoMemory
     }
 }

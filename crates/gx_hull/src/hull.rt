@@ -8,9 +8,10 @@ ghost use Rattle.gx_rotation.specs.Place.{placed_point};
 ghost use Rattle.gx_hull.specs.Hull.{hull_of, IsVertices, IsHullCause};
 
 use crate::HullFault;
-use crate::faces::{are_coplanar, faces};
+use crate::flat::are_coplanar;
 use crate::placed::{placed_faces, placed_points};
 use crate::points::{distinct, extent};
+use gx_faces::faces;
 use gx_num::{Extent, NoMemory, V3};
 use gx_plane::Plane;
 use gx_rotation::Rotation;

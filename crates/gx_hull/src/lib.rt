@@ -1,8 +1,8 @@
 //! Convex hulls of points with their faces, and solids: a kind, its values and its hull.
 #![tactic(auto)]
 
-mod faces;
 mod fault;
+mod flat;
 mod hull;
 mod placed;
 mod points;

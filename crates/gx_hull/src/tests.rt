@@ -125,3 +125,107 @@ fn a_hull_is_placed_with_its_faces(rt: HostRuntime) -> Result<(), Fail> {
     assert_eq!(rt; turned.extent(), moved.extent());
     Ok(())
 }
+
+fn vertex(row: [i8; 3]) -> V3
+    ensures { IsWithin (unsigned_abs M) result }
+{
+    let [x, y, z] = row;
+    point(i64::from(x), i64::from(y), i64::from(z))
+}
+
+fn points(alloc: Global, rows: &[[i8; 3]]) -> Result<Vec<V3>, AllocError>
+    ensures { IfOk result (λ points. All (IsWithin (unsigned_abs M)) points.items) }
+{
+    let mut points = Vec::new(alloc);
+    for row in rows {
+        points.push(vertex(*row))?;
+    }
+    Ok(points)
+}
+
+// The faces, each as its normal and its e.
+fn faces(alloc: Global, rows: &[[i8; 3]]) -> Result<Vec<(i64, i64, i64, i128)>, HullFault> {
+    let hull = Hull::new(alloc, points(alloc, rows)?)?;
+    let mut faces = Vec::new(alloc);
+    for face in hull.faces() {
+        let n = face.n();
+        faces.push((n.x, n.y, n.z, face.e()))?;
+    }
+    Ok(faces)
+}
+
+// By hand: an octahedron, a pyramid with a point on an edge of its base, and a prism on a hexagon, each face at its first three
+// points that aren't on one line.
+#[test]
+fn faces_come_in_the_order_of_their_first_three_points(rt: HostRuntime) -> Result<(), Fail> {
+    let table: [(&[[i8; 3]], &[(i64, i64, i64, i128)]); 3] = [
+        (
+            &[
+                [1, 0, 0],
+                [-1, 0, 0],
+                [0, 1, 0],
+                [0, -1, 0],
+                [0, 0, 1],
+                [0, 0, -1],
+            ],
+            &[
+                (1, 1, 1, 1),
+                (1, 1, -1, 1),
+                (1, -1, 1, 1),
+                (1, -1, -1, 1),
+                (-1, 1, 1, 1),
+                (-1, 1, -1, 1),
+                (-1, -1, 1, 1),
+                (-1, -1, -1, 1),
+            ],
+        ),
+        (
+            &[
+                [-1, -1, 0],
+                [1, -1, 0],
+                [-1, 1, 0],
+                [1, 1, 0],
+                [0, 0, 1],
+                [0, -1, 0],
+            ],
+            &[
+                (0, 0, -1, 0),
+                (0, -1, 1, 1),
+                (-1, 0, 1, 1),
+                (1, 0, 1, 1),
+                (0, 1, 1, 1),
+            ],
+        ),
+        (
+            &[
+                [2, 0, 0],
+                [1, 2, 0],
+                [-1, 2, 0],
+                [-2, 0, 0],
+                [-1, -2, 0],
+                [1, -2, 0],
+                [2, 0, 1],
+                [1, 2, 1],
+                [-1, 2, 1],
+                [-2, 0, 1],
+                [-1, -2, 1],
+                [1, -2, 1],
+            ],
+            &[
+                (0, 0, -1, 0),
+                (2, 1, 0, 4),
+                (2, -1, 0, 4),
+                (0, 1, 0, 2),
+                (-2, 1, 0, 4),
+                (-2, -1, 0, 4),
+                (0, -1, 0, 2),
+                (0, 0, 1, 1),
+            ],
+        ),
+    ];
+    for (rows, expected) in table {
+        let found = faces(rt.alloc(), rows).ok().ok_or("a hull")?;
+        assert!(rt; found.as_slice() == expected);
+    }
+    Ok(())
+}

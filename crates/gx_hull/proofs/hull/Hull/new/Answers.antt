@@ -15,6 +15,6 @@ invariant_of-result c =
         once = ap distinct is ∙ distinct-distinct c.deref.result.now ∙ sym is;
         solid = ap are_coplanar (sym c.deref-2.ensures.value) ∙ sym c.are_coplanar.ensures ∙ c.if-are_coplanar.false;
       },
-      c.in_ok-faces.ensures.ok ∙ ap faces_of c.deref-3.ensures.value,
+      c.in_ok-faces.ensures ∙ ap faces_of c.deref-3.ensures.value,
       c.extent-extent.ensures ∙ ap extent_of c.deref-4.ensures.value,
     )

@@ -7,7 +7,7 @@ use Rattle.gx_plane.specs.Between.{triples_of}
 use Rattle.gx_plane.proofs.TripleFacts.{All-triples_of, All-first}
 use Rattle.gx_convex.specs.Points.{is_coplanar}
 use Rattle.gx_hull.proofs.Loops.{list_all-hit, list_all-miss}
-use Rattle.gx_hull.proofs.faces.are_coplanar.Goals as goal
+use Rattle.gx_hull.proofs.flat.are_coplanar.Goals as goal
 
 pub loop-a-init : goal.loop-a-init
 loop-a-init c =

@@ -3,7 +3,7 @@ use Rattle.std.specs.List.{list_all}
 use Rattle.gx_num.specs.Vector.{IsWithin}
 use Rattle.gx_plane.specs.Plane.{reach}
 use Rattle.gx_convex.specs.Points.{is_coplanar, are_coplanar}
-use Rattle.gx_hull.proofs.faces.are_coplanar.Given as goal
+use Rattle.gx_hull.proofs.flat.are_coplanar.Given as goal
 
 -- the points are coplanar where they are so with the triples that are left
 abbrev pub invariant-loop-a : goal.invariant-loop-a

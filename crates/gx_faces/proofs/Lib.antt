@@ -1,0 +1,5 @@
+mod Adding
+pub mod Closing
+mod FacePoints
+mod Found
+mod OutwardEdge

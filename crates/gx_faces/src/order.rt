@@ -1,0 +1,141 @@
+ghost use Rattle.std.specs.Prelude.{◌≡◌, ◌∷◌, [], filter, false, All, Contains, IfOk, OnOk};
+ghost use Rattle.std.specs.List.{list_any};
+ghost use Rattle.gx_num.specs.Vector.{IsWithin};
+ghost use Rattle.gx_plane.specs.Plane.{reach};
+ghost use Rattle.gx_convex.specs.Points.{are_coplanar};
+ghost use Rattle.gx_convex.specs.Faces.{is_same_plane, faces_of};
+ghost use Rattle.gx_faces.specs.Order.{triples_along, triples_from, faces_through, after, is_open as is_open_plane, IsListed};
+
+use gx_num::{NoMemory, V3};
+use gx_plane::Plane;
+use std::alloc::Global;
+
+/// All faces of the points, in the order of the triples of points, where they all are among the planes.
+pub fn in_order(alloc: Global, planes: &[Plane], points: &[V3]) -> Result<Vec<Plane>, NoMemory>
+    requires within { All (IsWithin reach) points.now }
+    requires solid { are_coplanar points.now ≡ false }
+    requires all { All (Contains planes.now) (faces_of points.now) }
+    ensures { IfOk result (λ faces. faces.items ≡ faces_of points.now) }
+{
+    let mut faces = Vec::new(alloc);
+    let mut firsts = points;
+    while let Some((&a, seconds)) = firsts.split_first() {
+        let through = planes_through(alloc, planes, a, &faces)?;
+        add_from(alloc, &mut faces, &through, a, seconds, points)?;
+        firsts = seconds;
+    }
+    Ok(faces)
+}
+
+// Adds the faces of the triples that begin with a point, which are among the planes where they are new.
+fn add_from(
+    alloc: Global,
+    faces: &mut Vec<Plane>,
+    planes: &[Plane],
+    a: V3,
+    seconds: &[V3],
+    points: &[V3],
+) -> Result<(), NoMemory>
+    requires first { IsWithin reach a }
+    requires seconds { All (IsWithin reach) seconds.now }
+    requires within { All (IsWithin reach) points.now }
+    requires solid { are_coplanar points.now ≡ false }
+    requires all { All (IsListed planes.now faces.old.items) (faces_through points.now (triples_from a seconds.now)) }
+    ensures { OnOk result (faces.new.items ≡ after points.now (triples_from a seconds.now) faces.old.items) }
+{
+    let mut rest = seconds;
+    while let Some((&b, thirds)) = rest.split_first() {
+        let through = planes_through(alloc, planes, b, faces)?;
+        add_along(faces, &through, a, b, thirds, points)?;
+        rest = thirds;
+    }
+    Ok(())
+}
+
+// Adds the faces of the triples that begin with two points, which are among the planes where they are new.
+fn add_along(
+    faces: &mut Vec<Plane>,
+    planes: &[Plane],
+    a: V3,
+    b: V3,
+    thirds: &[V3],
+    points: &[V3],
+) -> Result<(), NoMemory>
+    requires first { IsWithin reach a }
+    requires second { IsWithin reach b }
+    requires thirds { All (IsWithin reach) thirds.now }
+    requires within { All (IsWithin reach) points.now }
+    requires solid { are_coplanar points.now ≡ false }
+    requires all { All (IsListed planes.now faces.old.items) (faces_through points.now (triples_along a b thirds.now)) }
+    ensures { OnOk result (faces.new.items ≡ after points.now (triples_along a b thirds.now) faces.old.items) }
+{
+    for &c in thirds {
+        if is_any_open(planes, c, faces) {
+            add_of_three(faces, a, b, c, points)?;
+        }
+    }
+    Ok(())
+}
+
+/// Adds the face of three points, if they have one and it is new.
+pub fn add_of_three(
+    faces: &mut Vec<Plane>,
+    a: V3,
+    b: V3,
+    c: V3,
+    points: &[V3],
+) -> Result<(), NoMemory>
+    requires first { IsWithin reach a }
+    requires second { IsWithin reach b }
+    requires third { IsWithin reach c }
+    requires within { All (IsWithin reach) points.now }
+    requires solid { are_coplanar points.now ≡ false }
+    ensures { OnOk result (faces.new.items ≡ after points.now ((a, b, c) ∷ []) faces.old.items) }
+{
+    if let Some(face) = Plane::supporting(a, b, c, points) {
+        if !is_among(&face, faces) {
+            faces.push(face)?;
+        }
+    }
+    Ok(())
+}
+
+// The planes through a point that aren't among the faces.
+fn planes_through(
+    alloc: Global,
+    planes: &[Plane],
+    p: V3,
+    faces: &[Plane],
+) -> Result<Vec<Plane>, NoMemory>
+    requires { IsWithin reach p }
+    ensures { IfOk result (λ found. found.items ≡ filter (is_open_plane faces.now p) planes.now) }
+{
+    let mut found = Vec::new(alloc);
+    for plane in planes {
+        if is_open(plane, p, faces) {
+            found.push(*plane)?;
+        }
+    }
+    Ok(found)
+}
+
+fn is_any_open(planes: &[Plane], p: V3, faces: &[Plane]) -> bool
+    requires { IsWithin reach p }
+    ensures { result ≡ list_any (is_open_plane faces.now p) planes.now }
+{
+    planes.iter().any(|plane| is_open(plane, p, faces))
+}
+
+// The plane is through a point and not among the faces.
+fn is_open(plane: &Plane, p: V3, faces: &[Plane]) -> bool
+    requires { IsWithin reach p }
+    ensures { result ≡ is_open_plane faces.now p plane.now }
+{
+    plane.side(p) == 0 && !is_among(plane, faces)
+}
+
+fn is_among(plane: &Plane, planes: &[Plane]) -> bool
+    ensures { result ≡ list_any (is_same_plane plane.now) planes.now }
+{
+    planes.iter().any(|other| plane == other)
+}
