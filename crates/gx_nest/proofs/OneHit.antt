@@ -22,13 +22,13 @@ module _ (solid : List HalfSpace) (ray : Ray) where
     ends_within a b d p.from_lowest.positive p.to_lowest.positive q.to_lowest.positive p.ordered (λ t h over under. let is = (q.inside t h).0 ((p.inside t h).1 (over, under)) in omega (arith, is.1)),
   )
 
-  one_part : (a b c d : RayParameter) → IsInsideBetween solid ray a b → IsInsideBetween solid ray c d → (a ≡ c) × (b ≡ d)
+  pub one_part : (a b c d : RayParameter) → IsInsideBetween solid ray a b → IsInsideBetween solid ray c d → (a ≡ c) × (b ≡ d)
   one_part a b c d p q =
       let there = within a b c d p q in
       let back = within c d a b q p in
       (same_parameter a c p.from_lowest q.from_lowest back.0 there.0, same_parameter b d p.to_lowest q.to_lowest there.1 back.1)
 
-  never : (a b : RayParameter) → IsInsideBetween solid ray a b → IsClip solid ray None → ⊥
+  pub never : (a b : RayParameter) → IsInsideBetween solid ray a b → IsClip solid ray None → ⊥
   never a b p none =
       let t = mediant a b in
       let h = positive_mediant a b p.from_lowest.positive p.ordered in

@@ -1,0 +1,3 @@
+mod Across
+mod Costs
+mod Rays

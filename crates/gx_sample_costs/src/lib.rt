@@ -1,0 +1,4 @@
+//! What the rays of the second sample cost.
+#![tactic(auto)]
+
+pub mod laws;
