@@ -1,4 +1,5 @@
 pub mod Better
+pub mod Blocks
 pub mod Growing
 pub mod Least
 pub mod Parts

@@ -1,3 +1,4 @@
 pub mod Best
 pub mod Grown
 pub mod Known
+pub mod Near

@@ -3,6 +3,7 @@
 
 mod best;
 mod grid;
+mod near;
 mod runs;
 #[cfg(test)]
 mod tests;

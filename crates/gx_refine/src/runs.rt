@@ -4,7 +4,8 @@ ghost use Rattle.gx_voxel.specs.Cut.{grid_of, run_of, members_in, runs_on, longe
 ghost use Rattle.gx_refine.specs.Grown.{ended_after, last_after};
 ghost use Rattle.gx_refine.specs.Known.{AreKnown, AreParts, along};
 
-use crate::grid::{Slices, members_between};
+use crate::grid::Slices;
+use crate::near::Near;
 use gx_num::{Extent, NoMemory};
 use std::alloc::Global;
 use std::marker::Model;
@@ -42,24 +43,6 @@ fn part_of_slice(slices: &Slices, i: u32, members: Vec<u32>) -> Part
     }
 }
 
-// The members in slice i.
-fn slice(
-    alloc: Global,
-    extents: &[Extent],
-    axis: u8,
-    members: &[u32],
-    slices: &Slices,
-    i: u32,
-) -> Result<Vec<u32>, NoMemory>
-    requires known { AreKnown extents.now members.now }
-    requires i { i < slices.now.count }
-    ensures { IfOk result (λ v. v.items ≡ members_in (along extents.now axis) members.now slices.now i) }
-{
-    let from = slices.bound(u64::from(i));
-    let to = slices.bound(u64::from(i) + 1);
-    members_between(alloc, extents, axis, members, from, to)
-}
-
 // One slice more: the last run is longer, or it has ended and another begins.
 fn add_slice(
     ended: &mut Vec<Part>,
@@ -94,14 +77,12 @@ pub fn runs(
     ensures parts { IfOk result (λ v. AreParts extents.now v.items) }
 {
     let slices = Slices::new(extents, axis, members);
+    let mut near = Near::none(alloc);
     let mut runs = Vec::new(alloc);
-    let mut run = part_of_slice(
-        &slices,
-        0,
-        slice(alloc, extents, axis, members, &slices, 0)?,
-    );
+    let first = near.slice(alloc, extents, axis, members, &slices, 0)?;
+    let mut run = part_of_slice(&slices, 0, first);
     for i in 1..slices.count() as u32 {
-        let next = slice(alloc, extents, axis, members, &slices, i)?;
+        let next = near.slice(alloc, extents, axis, members, &slices, i)?;
         add_slice(&mut runs, &mut run, &slices, i, next)?;
     }
     runs.push(run)?;
