@@ -12,11 +12,12 @@ use gx_clip::Span;
 use gx_fraction::Frac;
 use gx_io::Failed;
 use gx_offers::Offers;
-use gx_path::{Path, Row, Rows};
+use gx_path::{Row, Rows};
 use gx_steps::Steps;
 use std::sync::ledger::Ledger;
 
-// The rows of a volume that the ray is inside in a span, looked into as deep as there are levels.
+// The rows of a volume that the ray is inside in a span, looked into as deep as there are levels. The row
+// that is given over and over holds the path.
 #[expect(clippy::too_many_arguments)]
 pub fn emit<G: Geometry, R: Rows, T: Ledger, Q: Ledger>(
     geometry: &G,
@@ -24,7 +25,7 @@ pub fn emit<G: Geometry, R: Rows, T: Ledger, Q: Ledger>(
     span: Span,
     levels: &mut [Vec<Met>],
     offers: &mut Offers,
-    path: &mut Path,
+    row: &mut Row,
     rows: &mut R,
     tests: &mut Steps<T>,
     reads: &mut Steps<Q>,
@@ -32,11 +33,11 @@ pub fn emit<G: Geometry, R: Rows, T: Ledger, Q: Ledger>(
     requires known { G.knows geometry.now (length levels.old) frame.now span }
     requires offers { (v : ℕ) → G.count_of geometry.now v ≤ offers.old.room }
     requires room { HaveRoom (G.count_of geometry.now) (map vec_capacity levels.old) }
-    requires path { length path.old + length levels.old ≤ max_length }
-    requires takes { TakesBelow (R.takes rows.old) (G.daughter_of geometry.now) path.old frame.now.volume }
+    requires path { length row.old.path + length levels.old ≤ max_length }
+    requires takes { TakesBelow (R.takes rows.old) (G.daughter_of geometry.now) row.old.path frame.now.volume }
     ensures room { map vec_capacity levels.new ≡ map vec_capacity levels.old }
-    ensures path { OnOk result (path.new ≡ path.old) }
-    ensures rows { Writes (R.held rows.old) (R.held rows.new) (items_below (R.items rows.old) path.old (rows_of (hits_of (G.met_of geometry.now) (G.count_of geometry.now)) (length levels.old) (parameter_of span.from) (parameter_of span.to) frame.now)) result }
+    ensures path { OnOk result (row.new.path ≡ row.old.path) }
+    ensures rows { Writes (R.held rows.old) (R.held rows.new) (items_below (R.items rows.old) row.old.path (rows_of (hits_of (G.met_of geometry.now) (G.count_of geometry.now)) (length levels.old) (parameter_of span.from) (parameter_of span.to) frame.now)) result }
     ensures same_items { R.items rows.new ≡ R.items rows.old }
     ensures same_takes { R.takes rows.new ≡ R.takes rows.old }
     ensures cause { HasCause (R.faults rows.old) (R.faults rows.new) result }
@@ -47,39 +48,38 @@ pub fn emit<G: Geometry, R: Rows, T: Ledger, Q: Ledger>(
     ensures some_reads { OnOk result (reads.old + cost_of (least_each (G.least_reads geometry.now)) (hits_of (G.met_of geometry.now) (G.count_of geometry.now)) (length levels.old) (parameter_of span.from) (parameter_of span.to) frame.now ≤ reads.new) }
 {
     let Some((level, deeper)) = levels.split_first_mut() else {
-        return give(span.from, span.to, path, rows);
+        return give(span.from, span.to, row, rows);
     };
     let within = span;
     collect(geometry, frame, within, offers, level, tests, reads);
     let mut at = span.from;
     for met in level.iter() {
-        give(at, met.span.from, path, rows)?;
-        path.push(met.ordinal);
+        give(at, met.span.from, row, rows)?;
+        row.path.push(met.ordinal);
         emit(
-            geometry, &met.frame, met.span, deeper, offers, path, rows, tests, reads,
+            geometry, &met.frame, met.span, deeper, offers, row, rows, tests, reads,
         )?;
-        path.pop();
+        row.path.pop();
         at = met.span.to;
     }
-    give(at, span.to, path, rows)
+    give(at, span.to, row, rows)
 }
 
 // The row of the mother herself, where anything lies between the two ends.
-fn give<R: Rows>(from: Frac, to: Frac, path: &Path, rows: &mut R) -> Result<(), Failed>
+fn give<R: Rows>(from: Frac, to: Frac, row: &mut Row, rows: &mut R) -> Result<(), Failed>
     requires from { pos 0 ≤ℤ from.num }
     requires to { pos 0 ≤ℤ to.num }
-    requires takes { (row : Given) → row.path ≡ path.now → IsTrue (R.takes rows.old row) }
-    ensures rows { Writes (R.held rows.old) (R.held rows.new) (items_below (R.items rows.old) path.now (between (parameter_of from) (parameter_of to))) result }
+    requires takes { (given : Given) → given.path ≡ row.old.path → IsTrue (R.takes rows.old given) }
+    ensures path { row.new.path ≡ row.old.path }
+    ensures rows { Writes (R.held rows.old) (R.held rows.new) (items_below (R.items rows.old) row.old.path (between (parameter_of from) (parameter_of to))) result }
     ensures same_items { R.items rows.new ≡ R.items rows.old }
     ensures same_takes { R.takes rows.new ≡ R.takes rows.old }
     ensures cause { HasCause (R.faults rows.old) (R.faults rows.new) result }
 {
     if from.cmp(&to).is_lt() {
-        return rows.row(&Row {
-            from,
-            to,
-            path: path.copy(),
-        });
+        row.from = from;
+        row.to = to;
+        return rows.row(row);
     }
     Ok(())
 }

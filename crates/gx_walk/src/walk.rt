@@ -11,7 +11,7 @@ use crate::emit::emit;
 use crate::{Frame, Geometry, Scratch};
 use gx_clip::Span;
 use gx_io::Failed;
-use gx_path::{Path, Rows};
+use gx_path::{Path, Row, Rows};
 use gx_steps::Steps;
 use std::sync::ledger::Ledger;
 
@@ -39,14 +39,18 @@ pub fn walk_world<G: Geometry, R: Rows, T: Ledger, Q: Ledger>(
     ensures some_tests { OnOk result (tests.old + cost_of (one_each (hits_of (G.met_of geometry.now) (G.count_of geometry.now))) (hits_of (G.met_of geometry.now) (G.count_of geometry.now)) max_length (parameter_of span.from) (parameter_of span.to) world.now ≤ tests.new) }
     ensures some_reads { OnOk result (reads.old + cost_of (least_each (G.least_reads geometry.now)) (hits_of (G.met_of geometry.now) (G.count_of geometry.now)) max_length (parameter_of span.from) (parameter_of span.to) world.now ≤ reads.new) }
 {
-    let mut path = Path::new(*scratch.levels.allocator());
+    let mut row = Row {
+        from: span.from,
+        to: span.to,
+        path: Path::new(*scratch.levels.allocator()),
+    };
     emit(
         geometry,
         world,
         span,
         scratch.levels.as_mut_slice(),
         &mut scratch.offers,
-        &mut path,
+        &mut row,
         rows,
         tests,
         reads,

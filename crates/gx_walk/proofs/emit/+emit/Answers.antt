@@ -33,7 +33,7 @@ loop-met-init g t c =
       few_reads = λ other most b. omega (arith, c.collect.ensures.few_reads other most b, all most);
       some_tests = omega (arith, c.collect.ensures.some_tests, ap length c.deref-met-items.ensures.value, as-many hits k n level frame mets same, all (one_each hits));
       some_reads = omega (arith, c.collect.ensures.some_reads, all (least_each (g.G.Geometry.least_reads c.args.geometry.now)));
-      rows = owes-all hits k n level frame mets same (g.R.Rows.items c.args.rows.now) c.args.path.now (parameter_of c.args.span.from) (parameter_of c.args.span.to) (g.R.Rows.held c.args.rows.now);
+      rows = owes-all hits k n level frame mets same (g.R.Rows.items c.args.rows.now) c.args.row.now.path (parameter_of c.args.span.from) (parameter_of c.args.span.to) (g.R.Rows.held c.args.rows.now);
     }
 
 pub collect-requires-clause-known : goal.collect-requires-clause-known
@@ -42,16 +42,16 @@ collect-requires-clause-known g t c = (length c.args.levels.now, c.requires.know
 pub give-requires-clause-takes : goal.give-requires-clause-takes
 give-requires-clause-takes g t c =
     let takes = g.R.Rows.takes c.args.rows.now in
-    takes-own takes takes (g.G.Geometry.daughter_of c.args.geometry.now) c.args.path.now c.args.path.now c.args.frame.now.volume c.requires.takes refl refl
+    takes-own takes takes (g.G.Geometry.daughter_of c.args.geometry.now) c.args.row.now.path c.args.row.now.path c.args.frame.now.volume c.requires.takes refl refl
 
 pub give-requires-in-loop-met-clause-takes : goal.give-requires-in-loop-met-clause-takes
 give-requires-in-loop-met-clause-takes g t c =
-    takes-own (g.R.Rows.takes c.args.rows.now) (g.R.Rows.takes c.loop-met.rows) (g.G.Geometry.daughter_of c.args.geometry.now) c.args.path.now c.loop-met.path c.args.frame.now.volume
+    takes-own (g.R.Rows.takes c.args.rows.now) (g.R.Rows.takes c.loop-met.rows) (g.G.Geometry.daughter_of c.args.geometry.now) c.args.row.now.path c.loop-met.row.path c.args.frame.now.volume
     c.requires.takes c.loop-met.invariant.takes c.loop-met.invariant.path
 
 pub give-requires-2-clause-takes : goal.give-requires-2-clause-takes
 give-requires-2-clause-takes g t c =
-    takes-own (g.R.Rows.takes c.args.rows.now) (g.R.Rows.takes c.loop-met.rows) (g.G.Geometry.daughter_of c.args.geometry.now) c.args.path.now c.loop-met.path c.args.frame.now.volume
+    takes-own (g.R.Rows.takes c.args.rows.now) (g.R.Rows.takes c.loop-met.rows) (g.G.Geometry.daughter_of c.args.geometry.now) c.args.row.now.path c.loop-met.row.path c.args.frame.now.volume
     c.requires.takes c.loop-met.invariant.takes c.loop-met.invariant.path
 
 pub returns-in_err-give-clause-rows : goal.returns-in_err-give-clause-rows
@@ -62,14 +62,14 @@ returns-in_err-give-clause-rows g t c =
     let met = c.met-item.result in
     let inv = c.loop-met.invariant in
     let s = parameter_of c.loop-met.at in
-    stopped-before items c.args.path.now (λ (h : Hit Frame). rows_of hits n h.from h.to h.daughter) (parameter_of c.args.span.to) (g.R.Rows.held c.args.rows.now) (g.R.Rows.held c.loop-met.rows) _ s
+    stopped-before items c.args.row.now.path (λ (h : Hit Frame). rows_of hits n h.from h.to h.daughter) (parameter_of c.args.span.to) (g.R.Rows.held c.args.rows.now) (g.R.Rows.held c.loop-met.rows) _ s
     c.deref-met-items.result.now c.loop-met.met-index inv.rows met c.met-item.is c.loop-met-test.true (g.R.Rows.held c.give-in-loop-met.new.rows) c.from_residual.result _ c.from_residual.ensures.0
-    (same-below items (g.R.Rows.items c.loop-met.rows) c.args.path.now c.loop-met.path (between s (parameter_of met.span.from)) inv.items inv.path) c.in_err-give.ensures.rows.front
+    (same-below items (g.R.Rows.items c.loop-met.rows) c.args.row.now.path c.loop-met.row.path (between s (parameter_of met.span.from)) inv.items inv.path) c.in_err-give.ensures.rows.front
 
 pub returns-in_err-emit-clause-rows : goal.returns-in_err-emit-clause-rows
 returns-in_err-emit-clause-rows g t c =
     let items = g.R.Rows.items c.args.rows.now in
-    let path = c.args.path.now in
+    let path = c.args.row.now.path in
     let hits = hits_of (g.G.Geometry.met_of c.args.geometry.now) (g.G.Geometry.count_of c.args.geometry.now) in
     let n = length c.in-Some.deeper.now in
     let met = c.met-item.result in
@@ -80,17 +80,17 @@ returns-in_err-emit-clause-rows g t c =
     let below = path ++ met.ordinal ∷ [] in
     stopped-within items path (λ (h : Hit Frame). rows_of hits n h.from h.to h.daughter) (parameter_of c.args.span.to) (g.R.Rows.held c.args.rows.now) (g.R.Rows.held c.loop-met.rows) _ s
     c.deref-met-items.result.now c.loop-met.met-index inv.rows met c.met-item.is c.loop-met-test.true
-    (g.R.Rows.held c.give-in-loop-met.new.rows) _ (same-below items (g.R.Rows.items c.loop-met.rows) path c.loop-met.path (between s from) inv.items inv.path) c.in_ok-give.ensures.rows.all
+    (g.R.Rows.held c.give-in-loop-met.new.rows) _ (same-below items (g.R.Rows.items c.loop-met.rows) path c.loop-met.row.path (between s from) inv.items inv.path) c.in_ok-give.ensures.rows.all
     (g.R.Rows.held c.emit.new.rows) c.from_residual-in_err-emit.result _ c.from_residual-in_err-emit.ensures.0
     (
-    same-below items (g.R.Rows.items c.give-in-loop-met.new.rows) below c.push.new.self (rows_of hits (length c.loop-met.deeper) from to met.frame) (c.in_ok-give.ensures.same_items ∙ inv.items) (c.push.ensures ∙ ap (λ p. p ++ met.ordinal ∷ []) inv.path)
+    same-below items (g.R.Rows.items c.give-in-loop-met.new.rows) below c.push.new.self (rows_of hits (length c.loop-met.deeper) from to met.frame) (c.in_ok-give.ensures.same_items ∙ inv.items) (c.push.ensures ∙ ap (λ p. p ++ met.ordinal ∷ []) (c.in_ok-give.ensures.path ∙ inv.path))
     ∙ ap (λ j. items_below items below (rows_of hits j from to met.frame)) c.loop-met.auto.deeper
     ) c.in_err-emit.ensures.rows.front
 
 pub loop-met-preserved : goal.loop-met-preserved
 loop-met-preserved g t c =
     let items = g.R.Rows.items c.args.rows.now in
-    let path = c.args.path.now in
+    let path = c.args.row.now.path in
     let hits = hits_of (g.G.Geometry.met_of c.args.geometry.now) (g.G.Geometry.count_of c.args.geometry.now) in
     let n = length c.in-Some.deeper.now in
     let mets = c.deref-met-items.result.now in
@@ -101,7 +101,7 @@ loop-met-preserved g t c =
     let from = parameter_of met.span.from in
     let to = parameter_of met.span.to in
     let below = path ++ met.ordinal ∷ [] in
-    let pushed = c.push.ensures ∙ ap (λ p. p ++ met.ordinal ∷ []) inv.path in
+    let pushed = c.push.ensures ∙ ap (λ p. p ++ met.ordinal ∷ []) (c.in_ok-give.ensures.path ∙ inv.path) in
     let kept = c.in_ok-give.ensures.same_items ∙ inv.items in
     let deep = c.loop-met.auto.deeper in
     let next = λ (count : Count). sum-next (λ (h : Hit Frame). cost_of count hits n h.from h.to h.daughter) mets i met c.met-item.is c.loop-met-test.true in
@@ -121,7 +121,7 @@ loop-met-preserved g t c =
       some_reads = omega (arith, c.in_ok-emit.ensures.some_reads, at least, next least, inv.some_reads);
       rows = owes-next items path (λ (h : Hit Frame). rows_of hits n h.from h.to h.daughter) (parameter_of c.args.span.to) (g.R.Rows.held c.args.rows.now) (g.R.Rows.held c.loop-met.rows) _ s
           mets i inv.rows met c.met-item.is c.loop-met-test.true
-          (g.R.Rows.held c.give-in-loop-met.new.rows) _ (same-below items (g.R.Rows.items c.loop-met.rows) path c.loop-met.path (between s from) inv.items inv.path) c.in_ok-give.ensures.rows.all
+          (g.R.Rows.held c.give-in-loop-met.new.rows) _ (same-below items (g.R.Rows.items c.loop-met.rows) path c.loop-met.row.path (between s from) inv.items inv.path) c.in_ok-give.ensures.rows.all
           (g.R.Rows.held c.emit.new.rows) _
           (
           same-below items (g.R.Rows.items c.give-in-loop-met.new.rows) below c.push.new.self (rows_of hits (length c.loop-met.deeper) from to met.frame) kept pushed
@@ -132,7 +132,7 @@ loop-met-preserved g t c =
 pub emit-requires : goal.emit-requires
 emit-requires g t c κs lives =
     let daughter = g.G.Geometry.daughter_of c.args.geometry.now in
-    let path = c.args.path.now in
+    let path = c.args.row.now.path in
     let frame = c.args.frame.now in
     let met = c.met-item.result in
     let met_of = g.G.Geometry.met_of c.args.geometry.now frame in
@@ -142,11 +142,11 @@ emit-requires g t c κs lives =
     let below = subst (λ j. g.G.Geometry.knows c.args.geometry.now j frame c.args.span) (sym c.in-Some.ensures.cases.1) c.requires.known in
     let knows = subst (λ j. g.G.Geometry.knows c.args.geometry.now j met.frame met.span) (sym c.loop-met.auto.deeper) (g.met.G.Geometry.knows_met c.args.geometry.now frame (length c.in-Some.deeper.now) c.args.span met.ordinal met below known) in
     let into = (g.met.G.Geometry.meets c.args.geometry.now frame met.ordinal met known).1 in
-    let takes = takes-within (g.R.Rows.takes c.args.rows.now) (g.R.Rows.takes c.give-in-loop-met.new.rows) daughter path c.loop-met.path frame.volume c.requires.takes
-    (c.in_ok-give.ensures.same_takes ∙ inv.takes) inv.path met.ordinal met.frame.volume c.push.new.self into c.push.ensures in
+    let takes = takes-within (g.R.Rows.takes c.args.rows.now) (g.R.Rows.takes c.give-in-loop-met.new.rows) daughter path c.give-in-loop-met.new.row.path frame.volume c.requires.takes
+    (c.in_ok-give.ensures.same_takes ∙ inv.takes) (c.in_ok-give.ensures.path ∙ inv.path) met.ordinal met.frame.volume c.push.new.self into c.push.ensures in
     let offers = λ (v : ℕ). subst (λ r. count v ≤ r) (sym c.loop-met.invariant.offers) (c.requires.offers v) in
     let room = subst (HaveRoom count) (sym inv.room) (subst (λ (levels : List (Vec Met Global)). HaveRoom count (map vec_capacity levels)) c.in-Some.ensures.cases.0 c.requires.room).1 in
-    let longer : length c.push.new.self ≡ length path + 1 = ap length (c.push.ensures ∙ ap (λ p. p ++ met.ordinal ∷ []) inv.path) ∙ length-append path (met.ordinal ∷ []) in
+    let longer : length c.push.new.self ≡ length path + 1 = ap length (c.push.ensures ∙ ap (λ p. p ++ met.ordinal ∷ []) (c.in_ok-give.ensures.path ∙ inv.path)) ∙ length-append path (met.ordinal ∷ []) in
     let short : length c.push.new.self + length c.loop-met.deeper ≤ max_length = omega (arith, longer, c.loop-met.auto.deeper, c.in-Some.ensures.cases.1, c.requires.path) in
     (search rules, (lives.0, (lives.1.0, (lives.1.1.0, (lives.1.1.1.0, (lives.1.1.1.1, (knows, (offers, (room, (short, takes))))))))))
 
@@ -158,9 +158,9 @@ returns-clause-rows g t c =
     let to = parameter_of c.args.span.to in
     let s = parameter_of c.loop-met.at in
     let inv = c.loop-met.invariant in
-    written-last items c.args.path.now (λ (h : Hit Frame). rows_of hits n h.from h.to h.daughter) to (g.R.Rows.held c.args.rows.now) (g.R.Rows.held c.loop-met.rows) _ s
+    written-last items c.args.row.now.path (λ (h : Hit Frame). rows_of hits n h.from h.to h.daughter) to (g.R.Rows.held c.args.rows.now) (g.R.Rows.held c.loop-met.rows) _ s
     c.deref-met-items.result.now c.loop-met.met-index inv.rows c.loop-met-test.false (g.R.Rows.held c.give-2.new.rows) c.give-2.result _
-    (same-below items (g.R.Rows.items c.loop-met.rows) c.args.path.now c.loop-met.path (between s to) inv.items inv.path) c.give-2.ensures.rows
+    (same-below items (g.R.Rows.items c.loop-met.rows) c.args.row.now.path c.loop-met.row.path (between s to) inv.items inv.path) c.give-2.ensures.rows
 
 pub returns-in_err-emit-clause-few_tests : goal.returns-in_err-emit-clause-few_tests
 returns-in_err-emit-clause-few_tests g t c most other b =

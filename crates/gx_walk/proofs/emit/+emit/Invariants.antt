@@ -20,7 +20,7 @@ invariant-loop-met g l =
     let rest = λ (count : Count). sum_by (λ h. cost_of count hits n h.from h.to h.daughter) (map hit_of left) in
     record {
       room : map vec_capacity l.deeper ≡ map vec_capacity l.initial.deeper;
-      path : l.path ≡ l.initial.path;
+      path : l.row.path ≡ l.initial.row.path;
       start : pos 0 ≤ℤ l.at.num;
       items : g.R.Rows.items l.rows ≡ g.R.Rows.items l.fn.rows;
       takes : g.R.Rows.takes l.rows ≡ g.R.Rows.takes l.fn.rows;
@@ -31,6 +31,6 @@ invariant-loop-met g l =
       some_tests : l.fn.tests + whole (one_each hits) ≤ l.tests + rest (one_each hits);
       some_reads : l.fn.reads + whole (least_each (g.G.Geometry.least_reads l.geometry)) ≤ l.reads + rest (least_each (g.G.Geometry.least_reads l.geometry));
       rows : Owes (g.R.Rows.held l.fn.rows) (g.R.Rows.held l.rows)
-          (items_below (g.R.Rows.items l.fn.rows) l.initial.path (rows_of hits (length l.fn.levels) (parameter_of l.fn.span.from) (parameter_of l.fn.span.to) l.frame))
-          (pending (g.R.Rows.items l.fn.rows) l.initial.path (λ h. rows_of hits n h.from h.to h.daughter) (parameter_of l.fn.span.to) (parameter_of l.at) left);
+          (items_below (g.R.Rows.items l.fn.rows) l.initial.row.path (rows_of hits (length l.fn.levels) (parameter_of l.fn.span.from) (parameter_of l.fn.span.to) l.frame))
+          (pending (g.R.Rows.items l.fn.rows) l.initial.row.path (λ h. rows_of hits n h.from h.to h.daughter) (parameter_of l.fn.span.to) (parameter_of l.at) left);
     }

@@ -18,8 +18,8 @@ returns-clause-rows g c =
     let world = c.args.world.now in
     let n = length c.as_mut_slice.result.now in
     let levels : n ≡ max_length = ap length c.as_mut_slice.ensures.value ∙ c.scratch.invariant.0 in
-    let whole : items_below items c.new-path.result (rows_of hits n from to world) ≡ items_of items (open_rows (pieces_of hits max_length from to world)) =
-    ap (λ p. items_below items p (rows_of hits n from to world)) c.new-path.ensures
+    let whole : items_below items c.new.result (rows_of hits n from to world) ≡ items_of items (open_rows (pieces_of hits max_length from to world)) =
+    ap (λ p. items_below items p (rows_of hits n from to world)) c.new.ensures
     ∙ ap (λ n. items_of items (rows_of hits n from to world)) levels
     ∙ ap (items_of items) (sym (open-pieces hits max_length from to world)) in
     subst (λ l. Writes (g.R.Rows.held c.args.rows.now) (g.R.Rows.held c.emit.new.rows) l c.emit.result) whole c.emit.ensures.rows
