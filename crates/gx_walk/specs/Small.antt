@@ -1,5 +1,5 @@
 -- What is met where daughters are looked up, for the tests' geometry. No public contract stands on this file.
-use Rattle.std.proofs.Common.{◌≡◌, ℕ, zero, suc, ◌<◌, inl, inr, arith, List, [], ◌∷◌, Option, None, Some, refl, sym, ap, ◌∙◌}
+use Rattle.std.proofs.Common.{◌≡◌, ℕ, zero, suc, ◌<◌, inl, inr, arith, [], ◌∷◌, Option, None, Some, refl, sym, ap, ◌∙◌}
 use Rattle.std.specs.Option.{option_map}
 use Rattle.gx_num.specs.declared.ray.Ray.{Ray}
 use Rattle.gx_clip.specs.declared.span.Span.{Span}

@@ -1,10 +1,10 @@
-use Rattle.std.proofs.Common.{◌≡◌, ◌<◌, ◌-◌, ◌++◌, ◌∷◌, [], ℕ, List, inl, rules, arith, sym, subst, ap, ◌∙◌, not}
+use Rattle.std.proofs.Common.{◌≡◌, ◌<◌, ◌-◌, ◌++◌, ◌∷◌, [], ℕ, List, rules, arith, sym, subst, ap, ◌∙◌, not}
 use Rattle.std.specs.Prelude.{◌==◌}
 use Rattle.std.specs.List.{All}
 use Rattle.std.proofs.lemmas.List.Elements.{All-filter}
 use Rattle.gx_voxel.specs.Members.{extent_at}
 use Rattle.gx_voxel.specs.Cells.{without}
-use Rattle.gx_voxel.specs.Proxy.{content_of, Alike, IsNode, IsRun, StandsWithin}
+use Rattle.gx_voxel.specs.Proxy.{Alike, IsNode, IsRun, StandsWithin}
 use Rattle.gx_voxel.specs.declared.proxy.Proxy.{Proxy}
 use Rattle.gx_voxel.proofs.Elements.{all-one}
 use Rattle.gx_voxel.proofs.Grown.{turn-runs}

@@ -1,7 +1,6 @@
 use Rattle.std.proofs.Common.{length, ◌≡◌, ◌+◌, ◌≤◌, ◌≤ℤ◌, pos, vec_capacity, drop, map}
 use Rattle.std.specs.Prelude.{sum_by}
 use Rattle.gx_fraction.specs.Fraction.{parameter_of}
-use Rattle.gx_walk.specs.declared.met.Frame.{Frame}
 use Rattle.gx_walk.specs.Hits.{Count, cost_of, hit_of, hits_of, least_each, one_each}
 use Rattle.gx_walk.specs.Giving.{items_below, rows_of}
 use Rattle.gx_walk.proofs.Pending.{Owes, pending}
