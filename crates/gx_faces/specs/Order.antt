@@ -1,13 +1,13 @@
 -- The faces of triples of points, in their order.
-use Rattle.std.specs.Prelude.{pos, Bool, ◌&&◌, not, ◌⊎◌, List, ◌++◌, map, flat_map, filter, reverse, Contains}
+use Rattle.std.specs.Prelude.{Bool, ◌&&◌, not, ◌⊎◌, List, ◌++◌, map, flat_map, filter, reverse, Contains}
 use Rattle.std.specs.List.{list_any}
-use Rattle.std.specs.Ordering.{int_eq}
 use Rattle.gx_num.specs.declared.vector.V3.{V3}
 use Rattle.gx_num.specs.Space.{HalfSpace}
-use Rattle.gx_plane.specs.Plane.{side_of, supports, plane_through}
+use Rattle.gx_plane.specs.Plane.{supports, plane_through}
 use Rattle.gx_plane.specs.Between.{pairs_of, both_ways}
 use Rattle.gx_convex.specs.Points.{distinct_by}
 use Rattle.gx_convex.specs.Faces.{is_same_plane}
+use Rattle.gx_faces.specs.Steps.{is_on}
 
 -- the triples that begin with these two points
 abbrev pub triples_along : V3 → V3 → List V3 → List (V3 × V3 × V3)
@@ -27,7 +27,7 @@ after points triples faces = faces ++ distinct_by is_same_plane (reverse faces) 
 
 -- the plane is through p, and isn't among the faces
 abbrev pub is_open : List HalfSpace → V3 → HalfSpace → Bool
-is_open faces p h = int_eq (side_of h p) (pos 0) && not (list_any (is_same_plane h) faces)
+is_open faces p h = is_on h p && not (list_any (is_same_plane h) faces)
 
 -- the plane is among the planes or the faces
 abbrev pub IsListed : List HalfSpace → List HalfSpace → HalfSpace → Type 0
