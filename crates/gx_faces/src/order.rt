@@ -198,5 +198,5 @@ fn is_open(plane: &Plane, p: V3, faces: &[Plane]) -> bool
 fn is_among(plane: &Plane, planes: &[Plane]) -> bool
     ensures { result ≡ list_any (is_same_plane plane.now) planes.now }
 {
-    planes.iter().any(|other| plane == other)
+    planes.iter().rev().any(|other| plane == other)
 }
