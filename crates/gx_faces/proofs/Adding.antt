@@ -1,5 +1,5 @@
 -- How faces are added to faces, triple by triple, and that none is missed.
-use Rattle.std.proofs.Common.{◌≡◌, inl, inr, pos, Bool, true, false, ◌&&◌, not, cond, Option, Some, None, List, [], ◌∷◌, ◌++◌, map, filter, find, reverse, All, refl, sym, ap, ◌∙◌, arith, true≢false}
+use Rattle.std.proofs.Common.{◌≡◌, inl, inr, pos, Bool, true, false, ◌&&◌, not, cond, Option, Some, None, List, [], ◌∷◌, ◌++◌, map, filter, find, reverse, All, refl, sym, ap, ◌∙◌, subst, arith, true≢false}
 use Rattle.std.specs.Prelude.{Contains}
 use Rattle.std.specs.List.{list_any, cons_option}
 use Rattle.std.proofs.lemmas.Bool.{and_parts}
@@ -28,7 +28,7 @@ use Rattle.gx_convex.specs.Faces.{is_same_plane, faces_of}
 use Rattle.gx_convex.proofs.Distinct.{by_bool, All-from_distinct_by}
 use Rattle.gx_convex.proofs.FaceFacts.{All-filter, All-from_filter, filter-planes, is_same_plane-same, Decides-is_same_plane}
 use Rattle.gx_faces.specs.Steps.{is_on}
-use Rattle.gx_faces.specs.Order.{triples_along, triples_from, faces_through, after, is_open, IsListed}
+use Rattle.gx_faces.specs.Order.{triples_along, triples_from, faces_through, after, IsListed}
 use borrow.Author.Differences.{ints}
 
 -- ---- elements are kept once, at their first place
@@ -131,10 +131,12 @@ Contains-filter test xs x =
     All-contains (λ x. test x ≡ true → Contains (filter test xs) x) xs x
     (All-from_filter (Contains (filter test xs)) test xs (All-contains_itself (filter test xs)))
 
-opens : (faces : List HalfSpace) (p : V3) (h : HalfSpace) → side_of h p ≡ pos 0 → list_any (is_same_plane h) faces ≡ false → is_open faces p h ≡ true
-opens faces p h on new =
-    ap (λ (b : Bool). b && not (list_any (is_same_plane h) faces)) ((Decides-int_eq (side_of h p) (pos 0)).1 on)
-    ∙ ap not new
+filter-none : {X : Type 0} (test : X → Bool) (xs : List X) → list_any test xs ≡ false → filter test xs ≡ []
+filter-none test [] e = refl
+filter-none test (x ∷ xs) e =
+    by_bool (test x)
+    (λ t. absurd (true≢false (rw t at e)))
+    (λ n. rw n (filter-none test xs (rw n at e)))
 
 -- through a point of all the triples they are among the planes that are through it
 pub IsListed-through : (planes faces : List HalfSpace) (points : List V3) (p : V3) (ts : List (V3 × V3 × V3)) → All (IsOn p) ts → All (IsListed planes faces) (faces_through points ts) → All (IsListed (filter (λ h. is_on h p) planes) faces) (faces_through points ts)
@@ -175,20 +177,13 @@ none_left faces points ts listed =
     one h (inr m) = is_among-contained faces h m
     one h (inl m) = absurd (omega (arith, m.1))
 
--- and where none is open through the third point of a triple, each is among the faces
-pub none_missed : (planes faces : List HalfSpace) (points : List V3) (a b c : V3) → All (IsListed planes faces) (faces_through points ((a, b, c) ∷ [])) → list_any (is_open faces c) planes ≡ false → faces ≡ after points ((a, b, c) ∷ []) faces
-none_missed planes faces points a b c listed closed =
-    let hs = faces_through points ((a, b, c) ∷ []) in
-    let through = all_through points c ((a, b, c) ∷ []) (All-cons (IsOn c) (a, b, c) [] (on_third a b c) (All-nil (IsOn c))) in
-    sym (kept_with-all_old is_same_plane faces hs
-    (All-weaker (Contains hs) (λ h. list_any (is_same_plane h) faces ≡ true)
-    (λ h m. one h (All-contains (λ h. side_of h c ≡ pos 0) hs h through m) (All-contains (IsListed planes faces) hs h listed m)) hs (All-contains_itself hs)))
-  where
-    one : (h : HalfSpace) → side_of h c ≡ pos 0 → IsListed planes faces h → list_any (is_same_plane h) faces ≡ true
-    one h there (inr m) = is_among-contained faces h m
-    one h there (inl m) =
-        by_bool (list_any (is_same_plane h) faces) (λ e. e)
-        (λ e. absurd (true≢false (sym (list_any_at (is_open faces c) planes m.0 h m.1 (ap (is_open faces c) m.2 ∙ opens faces c h there e)) ∙ closed)))
+-- and where none is through the third point of a triple
+pub none_missed : (planes faces : List HalfSpace) (points : List V3) (a b c : V3) → All (IsListed planes faces) (faces_through points ((a, b, c) ∷ [])) → list_any (λ h. is_on h c) planes ≡ false → faces ≡ after points ((a, b, c) ∷ []) faces
+none_missed planes faces points a b c listed off =
+    let ts = (a, b, c) ∷ [] in
+    none_left faces points ts
+    (subst (λ (hs : List HalfSpace). All (IsListed hs faces) (faces_through points ts)) (filter-none (λ h. is_on h c) planes off)
+    (IsListed-through planes faces points c ts (All-cons (IsOn c) (a, b, c) [] (on_third a b c) (All-nil (IsOn c))) listed))
 
 -- ---- the triples that are left
 pub record AreLeft (planes : List HalfSpace) (points : List V3) (all : List HalfSpace) (ts : List (V3 × V3 × V3)) (faces : List HalfSpace) : Type 0 where

@@ -5,7 +5,7 @@ ghost use Rattle.gx_plane.specs.Plane.{reach};
 ghost use Rattle.gx_convex.specs.Points.{are_coplanar};
 ghost use Rattle.gx_convex.specs.Faces.{is_same_plane, faces_of};
 ghost use Rattle.gx_faces.specs.Steps.{is_on as is_on_plane};
-ghost use Rattle.gx_faces.specs.Order.{triples_along, triples_from, faces_through, after, is_open as is_open_plane, IsListed};
+ghost use Rattle.gx_faces.specs.Order.{triples_along, triples_from, faces_through, after, IsListed};
 
 use crate::edge::is_on;
 use gx_num::{NoMemory, V3};
@@ -106,7 +106,7 @@ fn add_of_two(
     if through.is_empty() {
         return Ok(());
     }
-    add_along(faces, &through, a, b, thirds, points)?;
+    add_along(faces, through, a, b, thirds, points)?;
     drop_found(missing, b, faces);
     Ok(())
 }
@@ -114,7 +114,7 @@ fn add_of_two(
 // The same, with those of the planes that are through both points.
 fn add_along(
     faces: &mut Vec<Plane>,
-    planes: &[Plane],
+    planes: Vec<Plane>,
     a: V3,
     b: V3,
     thirds: &[V3],
@@ -125,14 +125,42 @@ fn add_along(
     requires thirds { All (IsWithin reach) thirds.now }
     requires within { All (IsWithin reach) points.now }
     requires solid { are_coplanar points.now ≡ false }
-    requires all { All (IsListed planes.now faces.old.items) (faces_through points.now (triples_along a b thirds.now)) }
+    requires all { All (IsListed planes.items faces.old.items) (faces_through points.now (triples_along a b thirds.now)) }
     ensures { OnOk result (faces.new.items ≡ after points.now (triples_along a b thirds.now) faces.old.items) }
 {
+    let mut missing = planes;
     for &c in thirds {
-        if is_any_open(planes, c, faces) {
-            add_of_three(faces, a, b, c, points)?;
+        if missing.is_empty() {
+            return Ok(());
         }
+        add_missing(faces, &mut missing, a, b, c, points)?;
     }
+    Ok(())
+}
+
+// Adds the face of three points, which is among the missing if it is new.
+fn add_missing(
+    faces: &mut Vec<Plane>,
+    missing: &mut Vec<Plane>,
+    a: V3,
+    b: V3,
+    c: V3,
+    points: &[V3],
+) -> Result<(), NoMemory>
+    requires first { IsWithin reach a }
+    requires second { IsWithin reach b }
+    requires third { IsWithin reach c }
+    requires within { All (IsWithin reach) points.now }
+    requires solid { are_coplanar points.now ≡ false }
+    requires all { All (IsListed missing.old.items faces.old.items) (faces_through points.now ((a, b, c) ∷ [])) }
+    ensures added { OnOk result (faces.new.items ≡ after points.now ((a, b, c) ∷ []) faces.old.items) }
+    ensures left { OnOk result (All (IsListed missing.new.items faces.new.items) missing.old.items) }
+{
+    if !is_any_on(missing, c) {
+        return Ok(());
+    }
+    add_of_three(faces, a, b, c, points)?;
+    drop_found(missing, c, faces);
     Ok(())
 }
 
@@ -180,19 +208,11 @@ fn drop_found(missing: &mut Vec<Plane>, p: V3, faces: &[Plane])
     missing.retain(|plane| !(is_on(plane, p) && is_among(plane, faces)));
 }
 
-fn is_any_open(planes: &[Plane], p: V3, faces: &[Plane]) -> bool
+fn is_any_on(planes: &[Plane], p: V3) -> bool
     requires { IsWithin reach p }
-    ensures { result ≡ list_any (is_open_plane faces.now p) planes.now }
+    ensures { result ≡ list_any (λ h. is_on_plane h p) planes.now }
 {
-    planes.iter().any(|plane| is_open(plane, p, faces))
-}
-
-// The plane is through a point and not among the faces.
-fn is_open(plane: &Plane, p: V3, faces: &[Plane]) -> bool
-    requires { IsWithin reach p }
-    ensures { result ≡ is_open_plane faces.now p plane.now }
-{
-    is_on(plane, p) && !is_among(plane, faces)
+    planes.iter().any(|plane| is_on(plane, p))
 }
 
 fn is_among(plane: &Plane, planes: &[Plane]) -> bool

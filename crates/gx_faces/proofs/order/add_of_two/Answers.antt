@@ -28,7 +28,7 @@ add_along-requires-clause-all c =
     let faces = c.args.faces.now.items in
     let points = c.args.points.now in
     let these = triples_along c.args.a c.args.b c.args.thirds.now in
-    subst (λ (hs : List HalfSpace). All (IsListed hs faces) (faces_through points these)) (sym (c.deref-2.ensures.value ∙ c.in_ok-through.ensures ∙ ap (filter (λ h. is_on h c.args.b)) c.deref.ensures.value))
+    subst (λ (hs : List HalfSpace). All (IsListed hs faces) (faces_through points these)) (sym (c.in_ok-through.ensures ∙ ap (filter (λ h. is_on h c.args.b)) c.deref.ensures.value))
     (IsListed-through c.args.missing.now.items faces points c.args.b these (on_along c.args.a c.args.b c.args.thirds.now) c.requires.all)
 
 pub returns-clause-left : goal.returns-clause-left
@@ -36,5 +36,5 @@ returns-clause-left c =
     let missing = c.args.missing.now.items in
     let faces = c.add_along.new.faces.items in
     subst (λ (hs : List HalfSpace). All (IsListed hs faces) missing)
-    (sym (c.drop_found.ensures ∙ ap (λ (fs : List HalfSpace). filter (λ h. not (is_on h c.args.b && list_any (is_same_plane h) fs)) missing) c.deref-3.ensures.value))
+    (sym (c.drop_found.ensures ∙ ap (λ (fs : List HalfSpace). filter (λ h. not (is_on h c.args.b && list_any (is_same_plane h) fs)) missing) c.deref-2.ensures.value))
     (all_listed-closed missing faces c.args.b)
