@@ -72,9 +72,6 @@ pub after-append : (points : List V3) (ts us : List (V3 × V3 × V3)) (faces : L
 after-append points ts us faces =
     ap (kept_with is_same_plane faces) (faces_through-append points ts us) ∙ kept_with-append is_same_plane faces (faces_through points ts) (faces_through points us)
 
-pub after-none : (points : List V3) (faces : List HalfSpace) → after points [] faces ≡ faces
-after-none points faces = append-nil faces
-
 -- ---- one triple
 pub after-one : (points : List V3) → are_coplanar points ≡ false → (a b c : V3) (o : Option HalfSpace) (faces : List HalfSpace) → o ≡ find (λ h. supports h points) (both_ways (plane_through a b c)) → after points ((a, b, c) ∷ []) faces ≡ kept_with is_same_plane faces (cons_option o [])
 after-one points solid a b c o faces found =
