@@ -1,7 +1,8 @@
 -- How faces are added to faces, triple by triple, and that none is missed.
-use Rattle.std.proofs.Common.{◌≡◌, inl, inr, pos, Bool, true, false, ◌&&◌, not, cond, Option, Some, None, List, [], ◌∷◌, ◌++◌, map, filter, find, reverse, All, refl, sym, ap, ◌∙◌, arith, true≢false}
+use Rattle.std.proofs.Common.{◌≡◌, inl, inr, pos, Bool, true, false, ◌&&◌, not, cond, Option, Some, None, List, [], ◌∷◌, ◌++◌, map, filter, find, reverse, All, refl, sym, ap, ◌∙◌, subst, arith, true≢false}
 use Rattle.std.specs.Prelude.{Contains}
 use Rattle.std.specs.List.{list_any, cons_option}
+use Rattle.std.proofs.lemmas.Bool.{and_parts}
 use Rattle.std.proofs.lemmas.Bool.Decides.{Decides-int_eq}
 use Rattle.std.proofs.lemmas.List.{append_assoc, append-nil, reverse-append, map-append}
 use Rattle.std.proofs.lemmas.List.Sorted.{list_any-IsPermutation, IsPermutation-reverse}
@@ -26,7 +27,8 @@ use Rattle.gx_convex.specs.Points.{distinct_by, are_coplanar}
 use Rattle.gx_convex.specs.Faces.{is_same_plane, faces_of}
 use Rattle.gx_convex.proofs.Distinct.{by_bool, All-from_distinct_by}
 use Rattle.gx_convex.proofs.FaceFacts.{All-filter, All-from_filter, filter-planes, is_same_plane-same, Decides-is_same_plane}
-use Rattle.gx_faces.specs.Order.{triples_along, triples_from, faces_through, after, is_open, IsListed}
+use Rattle.gx_faces.specs.Steps.{is_on}
+use Rattle.gx_faces.specs.Order.{triples_along, triples_from, faces_through, after, IsListed}
 use borrow.Author.Differences.{ints}
 
 -- ---- elements are kept once, at their first place
@@ -69,9 +71,6 @@ faces_through-append points ts us =
 pub after-append : (points : List V3) (ts us : List (V3 × V3 × V3)) (faces : List HalfSpace) → after points (ts ++ us) faces ≡ after points us (after points ts faces)
 after-append points ts us faces =
     ap (kept_with is_same_plane faces) (faces_through-append points ts us) ∙ kept_with-append is_same_plane faces (faces_through points ts) (faces_through points us)
-
-pub after-none : (points : List V3) (faces : List HalfSpace) → after points [] faces ≡ faces
-after-none points faces = append-nil faces
 
 -- ---- one triple
 pub after-one : (points : List V3) → are_coplanar points ≡ false → (a b c : V3) (o : Option HalfSpace) (faces : List HalfSpace) → o ≡ find (λ h. supports h points) (both_ways (plane_through a b c)) → after points ((a, b, c) ∷ []) faces ≡ kept_with is_same_plane faces (cons_option o [])
@@ -129,40 +128,59 @@ Contains-filter test xs x =
     All-contains (λ x. test x ≡ true → Contains (filter test xs) x) xs x
     (All-from_filter (Contains (filter test xs)) test xs (All-contains_itself (filter test xs)))
 
-opens : (faces : List HalfSpace) (p : V3) (h : HalfSpace) → side_of h p ≡ pos 0 → list_any (is_same_plane h) faces ≡ false → is_open faces p h ≡ true
-opens faces p h on new =
-    ap (λ (b : Bool). b && not (list_any (is_same_plane h) faces)) ((Decides-int_eq (side_of h p) (pos 0)).1 on)
-    ∙ ap not new
+filter-none : {X : Type 0} (test : X → Bool) (xs : List X) → list_any test xs ≡ false → filter test xs ≡ []
+filter-none test [] e = refl
+filter-none test (x ∷ xs) e =
+    by_bool (test x)
+    (λ t. absurd (true≢false (rw t at e)))
+    (λ n. rw n (filter-none test xs (rw n at e)))
 
--- where one that isn't among the faces is open
-pub IsListed-open : (planes faces : List HalfSpace) (points : List V3) (p : V3) (ts : List (V3 × V3 × V3)) → All (IsOn p) ts → All (IsListed planes faces) (faces_through points ts) → All (IsListed (filter (is_open faces p) planes) faces) (faces_through points ts)
-IsListed-open planes faces points p ts on listed =
+-- through a point of all the triples they are among the planes that are through it
+pub IsListed-through : (planes faces : List HalfSpace) (points : List V3) (p : V3) (ts : List (V3 × V3 × V3)) → All (IsOn p) ts → All (IsListed planes faces) (faces_through points ts) → All (IsListed (filter (λ h. is_on h p) planes) faces) (faces_through points ts)
+IsListed-through planes faces points p ts on listed =
     let hs = faces_through points ts in
-    All-weaker (Contains hs) (IsListed (filter (is_open faces p) planes) faces)
+    All-weaker (Contains hs) (IsListed (filter (λ h. is_on h p) planes) faces)
     (λ h m. one h (All-contains (λ h. side_of h p ≡ pos 0) hs h (all_through points p ts on) m) (All-contains (IsListed planes faces) hs h listed m)) hs (All-contains_itself hs)
   where
-    one : (h : HalfSpace) → side_of h p ≡ pos 0 → IsListed planes faces h → IsListed (filter (is_open faces p) planes) faces h
+    one : (h : HalfSpace) → side_of h p ≡ pos 0 → IsListed planes faces h → IsListed (filter (λ h. is_on h p) planes) faces h
     one h there (inr m) = inr m
-    one h there (inl m) =
-        by_bool (list_any (is_same_plane h) faces)
-        (λ e. inr (Contains-from_any is_same_plane-same h faces e))
-        (λ e. inl (Contains-filter (is_open faces p) planes h m (opens faces p h there e)))
+    one h there (inl m) = inl (Contains-filter (λ h. is_on h p) planes h m ((Decides-int_eq (side_of h p) (pos 0)).1 there))
 
--- where none is open, each is among the faces
-pub none_missed : (planes faces : List HalfSpace) (points : List V3) (a b c : V3) → All (IsListed planes faces) (faces_through points ((a, b, c) ∷ [])) → list_any (is_open faces c) planes ≡ false → faces ≡ after points ((a, b, c) ∷ []) faces
-none_missed planes faces points a b c listed closed =
-    let hs = faces_through points ((a, b, c) ∷ []) in
-    let through = all_through points c ((a, b, c) ∷ []) (All-cons (IsOn c) (a, b, c) [] (on_third a b c) (All-nil (IsOn c))) in
-    sym (kept_with-all_old is_same_plane faces hs
-    (All-weaker (Contains hs) (λ h. list_any (is_same_plane h) faces ≡ true)
-    (λ h m. one h (All-contains (λ h. side_of h c ≡ pos 0) hs h through m) (All-contains (IsListed planes faces) hs h listed m)) hs (All-contains_itself hs)))
+-- planes that are dropped are among the faces
+pub all_listed : (planes faces : List HalfSpace) → All (IsListed planes faces) planes
+all_listed planes faces = All-weaker (Contains planes) (IsListed planes faces) (λ h m. inl m) planes (All-contains_itself planes)
+
+pub all_listed-closed : (planes faces : List HalfSpace) (p : V3) → All (IsListed (filter (λ h. not (is_on h p && list_any (is_same_plane h) faces)) planes) faces) planes
+all_listed-closed planes faces p = All-weaker (Contains planes) (IsListed (filter left planes) faces) one planes (All-contains_itself planes)
   where
-    one : (h : HalfSpace) → side_of h c ≡ pos 0 → IsListed planes faces h → list_any (is_same_plane h) faces ≡ true
-    one h there (inr m) =
-        list_any_at (is_same_plane h) faces m.0 h m.1 (ap (is_same_plane h) m.2 ∙ (Decides-is_same_plane h h).1 refl)
-    one h there (inl m) =
-        by_bool (list_any (is_same_plane h) faces) (λ e. e)
-        (λ e. absurd (true≢false (sym (list_any_at (is_open faces c) planes m.0 h m.1 (ap (is_open faces c) m.2 ∙ opens faces c h there e)) ∙ closed)))
+    left : HalfSpace → Bool
+    left h = not (is_on h p && list_any (is_same_plane h) faces)
+
+    one : (h : HalfSpace) → Contains planes h → IsListed (filter left planes) faces h
+    one h m =
+        by_bool (is_on h p && list_any (is_same_plane h) faces)
+        (λ e. inr (Contains-from_any is_same_plane-same h faces (and_parts (is_on h p) (list_any (is_same_plane h) faces) e).1))
+        (λ e. inl (Contains-filter left planes h m (ap not e)))
+
+-- where no plane is open, each is among the faces
+is_among-contained : (faces : List HalfSpace) (h : HalfSpace) → Contains faces h → list_any (is_same_plane h) faces ≡ true
+is_among-contained faces h m = list_any_at (is_same_plane h) faces m.0 h m.1 (ap (is_same_plane h) m.2 ∙ (Decides-is_same_plane h h).1 refl)
+
+pub none_left : (faces : List HalfSpace) (points : List V3) (ts : List (V3 × V3 × V3)) → All (IsListed [] faces) (faces_through points ts) → faces ≡ after points ts faces
+none_left faces points ts listed =
+    sym (kept_with-all_old is_same_plane faces (faces_through points ts) (All-weaker (IsListed [] faces) (λ h. list_any (is_same_plane h) faces ≡ true) one (faces_through points ts) listed))
+  where
+    one : (h : HalfSpace) → IsListed [] faces h → list_any (is_same_plane h) faces ≡ true
+    one h (inr m) = is_among-contained faces h m
+    one h (inl m) = absurd (omega (arith, m.1))
+
+-- and where none is through the third point of a triple
+pub none_missed : (planes faces : List HalfSpace) (points : List V3) (a b c : V3) → All (IsListed planes faces) (faces_through points ((a, b, c) ∷ [])) → list_any (λ h. is_on h c) planes ≡ false → faces ≡ after points ((a, b, c) ∷ []) faces
+none_missed planes faces points a b c listed off =
+    let ts = (a, b, c) ∷ [] in
+    none_left faces points ts
+    (subst (λ (hs : List HalfSpace). All (IsListed hs faces) (faces_through points ts)) (filter-none (λ h. is_on h c) planes off)
+    (IsListed-through planes faces points c ts (All-cons (IsOn c) (a, b, c) [] (on_third a b c) (All-nil (IsOn c))) listed))
 
 -- ---- the triples that are left
 pub record AreLeft (planes : List HalfSpace) (points : List V3) (all : List HalfSpace) (ts : List (V3 × V3 × V3)) (faces : List HalfSpace) : Type 0 where
@@ -182,16 +200,16 @@ module _ (planes : List HalfSpace) (points : List V3) (all : List HalfSpace) whe
       (rw (ap (faces_through points) is ∙ faces_through-append points ts us) at before.listed)).0
 
   -- those behind them, once they are added
-  pub AreLeft-after : (ts us left : List (V3 × V3 × V3)) (faces now : List HalfSpace) → left ≡ ts ++ us → now ≡ after points ts faces → AreLeft planes points all left faces → AreLeft planes points all us now
-  AreLeft-after ts us left faces now is added before = record {
-    listed = All-weaker (IsListed planes faces) (IsListed planes now) more (faces_through points us)
+  pub AreLeft-after : (ts us left : List (V3 × V3 × V3)) (faces missing now : List HalfSpace) → left ≡ ts ++ us → now ≡ after points ts faces → All (IsListed missing now) planes → AreLeft planes points all left faces → AreLeft missing points all us now
+  AreLeft-after ts us left faces missing now is added kept before = record {
+    listed = All-weaker (IsListed planes faces) (IsListed missing now) more (faces_through points us)
         (All-append_parts (IsListed planes faces) (faces_through points ts) (faces_through points us)
         (rw (ap (faces_through points) is ∙ faces_through-append points ts us) at before.listed)).1;
     rest = ap (after points us) added ∙ sym (after-append points ts us faces) ∙ ap (λ (ts : List (V3 × V3 × V3)). after points ts faces) (sym is) ∙ before.rest;
   }
     where
-      more : (h : HalfSpace) → IsListed planes faces h → IsListed planes now h
-      more h (inl m) = inl m
+      more : (h : HalfSpace) → IsListed planes faces h → IsListed missing now h
+      more h (inl m) = All-contains (IsListed missing now) planes h kept m
       more h (inr m) = inr (rw added (Contains-append_left faces (distinct_by is_same_plane (reverse faces) (faces_through points ts)) h m))
 
 -- ---- all faces are those of all triples

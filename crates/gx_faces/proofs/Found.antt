@@ -1,5 +1,5 @@
 -- What is found over edges: faces, and that edges are joined.
-use Rattle.std.proofs.Common.{◌≡◌, ℕ, ◌+◌, ◌<◌, get_or, length, take, arith, true, false, Bool, not, ◌&&◌, pos, ◌≤ℤ◌, int_le, Option, Some, None, IfSome, List, [], ◌∷◌, ◌++◌, filter, find, All, Contains, refl, sym, ap, ◌∙◌, subst, append_assoc, append-nil, true≢false}
+use Rattle.std.proofs.Common.{◌≡◌, ℕ, ◌+◌, ◌<◌, get_or, length, take, arith, true, false, Bool, not, ◌&&◌, pos, ◌≤ℤ◌, int_le, Option, Some, None, IfSome, List, [], ◌∷◌, ◌++◌, filter, find, All, Contains, refl, sym, ap, ◌∙◌, subst, append_assoc, true≢false}
 use Rattle.std.specs.Option.{option_map}
 use Rattle.std.specs.List.{list_all, list_any}
 use Rattle.std.proofs.lemmas.Bool.{and_parts}
@@ -100,9 +100,6 @@ some_joined (other ∷ faces) h p q e =
     (λ n. let rest = some_joined faces h p q (rw n at e) in record { other = rest.other; is_face = Contains-tail other faces rest.other rest.is_face; apart = rest.apart; first = rest.first; second = rest.second })
 
 -- ---- more faces
-pub none_more : (points : List V3) (faces : List HalfSpace) → AreMore points faces faces
-none_more points faces = record { more = []; same = sym (append-nil faces); each = All-nil (Contains (faces_of points)) }
-
 pub one_more : (points : List V3) (faces : List HalfSpace) (h : HalfSpace) → Contains (faces_of points) h → AreMore points faces (faces ++ h ∷ [])
 one_more points faces h is = record { more = h ∷ []; same = refl; each = All-cons (Contains (faces_of points)) h [] is (All-nil (Contains (faces_of points))) }
 

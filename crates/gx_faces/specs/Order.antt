@@ -1,10 +1,8 @@
 -- The faces of triples of points, in their order.
-use Rattle.std.specs.Prelude.{pos, Bool, ◌&&◌, not, ◌⊎◌, List, ◌++◌, map, flat_map, filter, reverse, Contains}
-use Rattle.std.specs.List.{list_any}
-use Rattle.std.specs.Ordering.{int_eq}
+use Rattle.std.specs.Prelude.{◌⊎◌, List, ◌++◌, map, flat_map, filter, reverse, Contains}
 use Rattle.gx_num.specs.declared.vector.V3.{V3}
 use Rattle.gx_num.specs.Space.{HalfSpace}
-use Rattle.gx_plane.specs.Plane.{side_of, supports, plane_through}
+use Rattle.gx_plane.specs.Plane.{supports, plane_through}
 use Rattle.gx_plane.specs.Between.{pairs_of, both_ways}
 use Rattle.gx_convex.specs.Points.{distinct_by}
 use Rattle.gx_convex.specs.Faces.{is_same_plane}
@@ -24,10 +22,6 @@ faces_through points triples = filter (λ h. supports h points) (flat_map (λ t.
 -- the faces, and behind them those of the triples that aren't among them, each once
 abbrev pub after : List V3 → List (V3 × V3 × V3) → List HalfSpace → List HalfSpace
 after points triples faces = faces ++ distinct_by is_same_plane (reverse faces) (faces_through points triples)
-
--- the plane is through p, and isn't among the faces
-abbrev pub is_open : List HalfSpace → V3 → HalfSpace → Bool
-is_open faces p h = int_eq (side_of h p) (pos 0) && not (list_any (is_same_plane h) faces)
 
 -- the plane is among the planes or the faces
 abbrev pub IsListed : List HalfSpace → List HalfSpace → HalfSpace → Type 0

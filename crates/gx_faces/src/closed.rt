@@ -1,8 +1,6 @@
-ghost use Rattle.std.specs.Prelude.{◌≡◌, ◌<◌, true, false, length, get_or, filter, All, Contains, IfOk, IfSome, OnOk};
+ghost use Rattle.std.specs.Prelude.{◌≡◌, true, filter, All, Contains, IfOk, IfSome, OnOk};
 ghost use Rattle.gx_num.specs.Vector.{IsWithin};
 ghost use Rattle.gx_plane.specs.Plane.{reach};
-ghost use Rattle.gx_convex.specs.Points.{are_coplanar};
-ghost use Rattle.gx_convex.specs.Faces.{faces_of};
 ghost use Rattle.gx_faces.specs.Closed.{IsEdge, IsJoined, IsClosedAt, AreClosed};
 ghost use Rattle.gx_faces.specs.Steps.{is_on as is_on_plane, AreMore};
 

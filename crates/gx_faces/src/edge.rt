@@ -25,7 +25,7 @@ pub fn is_joined(face: &Plane, p: V3, q: V3, planes: &[Plane]) -> bool
     requires second { IsWithin reach q }
     ensures { result ≡ list_any (joins_both face.now p q) planes.now }
 {
-    planes.iter().any(|other| joins(face, p, q, other))
+    planes.iter().rev().any(|other| joins(face, p, q, other))
 }
 
 /// The other plane is through both points.

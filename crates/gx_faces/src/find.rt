@@ -17,7 +17,7 @@ pub fn faces(alloc: Global, points: &[V3]) -> Result<Vec<Plane>, NoMemory>
     ensures { IfOk result (λ faces. faces.items ≡ faces_of points.now) }
 {
     match closed_faces(alloc, points)? {
-        Some(planes) => in_order(alloc, &planes, points),
+        Some(planes) => in_order(alloc, planes, points),
         None => each_face(alloc, points),
     }
 }

@@ -9,7 +9,7 @@ use Rattle.gx_faces.proofs.order.add_from.Given as goal
 abbrev pub invariant-loop-b : goal.invariant-loop-b
 invariant-loop-b l = record {
   within : All (IsWithin reach) l.rest;
-  left : AreLeft l.planes l.points (after l.fn.points (triples_from l.fn.a l.fn.seconds) l.fn.faces.items) (triples_from l.a l.rest) l.faces.items;
+  left : AreLeft l.missing.items l.points (after l.fn.points (triples_from l.fn.a l.fn.seconds) l.fn.faces.items) (triples_from l.a l.rest) l.faces.items;
 }
 
 abbrev pub decreases-loop-b : goal.decreases-loop-b

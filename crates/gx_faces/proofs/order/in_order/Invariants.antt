@@ -10,7 +10,7 @@ use Rattle.gx_faces.proofs.order.in_order.Given as goal
 abbrev pub invariant-loop-a : goal.invariant-loop-a
 invariant-loop-a l = record {
   within : All (IsWithin reach) l.firsts;
-  left : AreLeft l.planes l.points (faces_of l.fn.points) (triples_of l.firsts) l.faces.items;
+  left : AreLeft l.missing.items l.points (faces_of l.fn.points) (triples_of l.firsts) l.faces.items;
 }
 
 abbrev pub decreases-loop-a : goal.decreases-loop-a
