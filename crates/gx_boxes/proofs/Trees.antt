@@ -1,34 +1,30 @@
--- Parts of a tree and their bounds: the parts of a list that is halved, and a tree made of two with a part between them.
-use Rattle.std.proofs.Common.{◌≡◌, ◌⊎◌, inl, inr, ℕ, zero, suc, ◌+◌, ◌/◌, ◌<◌, ◌≤◌, ℤ, pos, ◌*ℤ◌, ◌≤ℤ◌, ◌<ℤ◌, List, [], ◌∷◌, ◌++◌, length, map, take, drop, refl, sym, ap, subst, ◌∙◌, arith}
+-- Parts of a tree and their bounds: what is passed at a part, and a tree made of two with bounds before them.
+use Rattle.std.proofs.Common.{◌≡◌, inl, inr, ℕ, ◌-◌, ◌*◌, ◌<◌, ℤ, pos, ◌≤ℤ◌, List, [], ◌∷◌, ◌++◌, length, length-append, append-nil, append_assoc, map, take, take_all, drop, refl, sym, ap, subst, ◌∙◌, arith}
 use Rattle.std.specs.List.{All, AllByRecursion}
 use Rattle.std.specs.List.Sorted.{IsPermutation}
 use Rattle.std.proofs.lemmas.Int.{ints, int_min_is, int_max_is}
-use Rattle.std.proofs.lemmas.List.{take_at, drop_at}
+use Rattle.std.proofs.lemmas.List.{take-append-drop, take-append-le}
 use Rattle.std.proofs.lemmas.List.Elements.{recursion_from_All}
-use Rattle.std.proofs.lemmas.List.Sorted.{IsPermutation-trans, IsPermutation-append, IsPermutation-cons, All-permutation, length_permutation}
+use Rattle.std.proofs.lemmas.List.Sorted.{IsPermutation-trans, IsPermutation-append, All-permutation, length_permutation}
 use Rattle.gx_num.specs.declared.vector.V3.{V3}
 use Rattle.gx_num.specs.declared.extent.Extent.{Extent}
 use Rattle.gx_num.specs.declared.ray.Ray.{Ray}
-use Rattle.gx_num.specs.Vector4.{Vec4}
-use Rattle.gx_num.specs.Ray.{RayParameter, IsPositive, point_of_ray}
+use Rattle.gx_num.specs.Ray.{point_of_ray}
 use Rattle.gx_algebra.proofs.Order.{mul-le-left}
 use Rattle.gx_convex.specs.Laws.{IsBetween}
-use Rattle.gx_offers.specs.Offers.{AnyByRecursion, IsOneOf, Offered, with_number, IsOffered}
+use Rattle.gx_offers.specs.Offers.{IsOneOf, Offered, with_number, IsOffered}
 use Rattle.gx_offers.proofs.Offered.{one, both}
-use Rattle.gx_boxes.specs.Boxes.{IsWithinOpen, IsMet, IsMetAmong}
-use Rattle.gx_boxes.specs.Tree.{IsInReach, IsEnclosed, AreLeast, AreGreatest, IsInBounds, Halves, AreBounded, IsNearPart, AreTree, IsMore, AreOffered, boxes_of}
+use Rattle.gx_boxes.specs.Boxes.{IsMet, IsMetAmong}
+use Rattle.gx_boxes.specs.Tree.{IsInReach, IsEnclosed, AreLeast, AreGreatest, AreBounds, AreTree, AreBelow, IsMore, AreOffered, HasPassed, boxes_of}
 use Rattle.gx_boxes.specs.declared.boxed.Boxed.{Boxed}
 use Rattle.gx_boxes.specs.declared.part.Part.{Part}
+use Rattle.gx_boxes.specs.declared.part.Part.TheVariants.{One, Many}
 
 -- ---- lists
 module _ {X : Type 0} (P : X → Type 0) where
   pub all-both : (xs ys : List X) → AllByRecursion P xs → AllByRecursion P ys → AllByRecursion P (xs ++ ys)
   all-both [] ys a b = b
   all-both (x ∷ xs) ys a b = (a.0, all-both xs ys a.1 b)
-
-  pub all-front : (xs ys : List X) → AllByRecursion P (xs ++ ys) → AllByRecursion P xs
-  all-front [] ys a = tt
-  all-front (x ∷ xs) ys a = (a.0, all-front xs ys a.1)
 
   pub all-back : (xs ys : List X) → AllByRecursion P (xs ++ ys) → AllByRecursion P ys
   all-back [] ys a = a
@@ -42,9 +38,10 @@ pub map-both : {X Y : Type 0} (f : X → Y) (xs ys : List X) → map f (xs ++ ys
 map-both f [] ys = refl
 map-both f (x ∷ xs) ys = ap (λ l. f x ∷ l) (map-both f xs ys)
 
-pub all-boxes : (P : Boxed → Type 0) (parts : List Part) → AllByRecursion P (boxes_of parts) → AllByRecursion (λ (p : Part). P p.boxed) parts
-all-boxes P [] all = tt
-all-boxes P (p ∷ parts) all = (all.0, all-boxes P parts all.1)
+pub boxes-both : (xs ys : List Part) → boxes_of (xs ++ ys) ≡ boxes_of xs ++ boxes_of ys
+boxes-both [] ys = refl
+boxes-both (One b ∷ xs) ys = ap (λ l. b ∷ l) (boxes-both xs ys)
+boxes-both (Many bounds n ∷ xs) ys = boxes-both xs ys
 
 -- ---- a box that has another is met where the other is
 wider : (a b c d at w : ℤ) → pos 0 ≤ℤ w → a ≤ℤ b → c ≤ℤ d → IsBetween b c at w → IsBetween a d at w
@@ -100,9 +97,8 @@ module _ (a b : Extent) (low high : V3) (least : AreLeast a.low b.low low) (grea
     };
   }
 
-pub missed-all : (bounds : Extent) (ray : Ray) → (IsMet bounds ray → ⊥) → (parts : List Part) → AllByRecursion (IsInBounds bounds) parts → AllByRecursion (λ b. IsMet b.extent ray → ⊥) (boxes_of parts)
-missed-all bounds ray missed [] all = tt
-missed-all bounds ray missed (p ∷ parts) all = ((λ met. missed (met-wider bounds p.boxed.extent ray all.0 met)), missed-all bounds ray missed parts all.1)
+missed-all : (bounds : Extent) (ray : Ray) → (IsMet bounds ray → ⊥) → (boxes : List Boxed) → AllByRecursion (λ b. IsEnclosed bounds b.extent) boxes → AllByRecursion (λ b. IsMet b.extent ray → ⊥) boxes
+missed-all bounds ray missed boxes all = all-map (λ b. IsEnclosed bounds b.extent) (λ b. IsMet b.extent ray → ⊥) (λ b e met. missed (met-wider bounds b.extent ray e met)) boxes all
 
 -- ---- what was offered
 numbers-both : (xs ys : List Boxed) → map (λ (b : Boxed). b.number) (xs ++ ys) ≡ map (λ (b : Boxed). b.number) xs ++ map (λ (b : Boxed). b.number) ys
@@ -144,82 +140,90 @@ module _ (ray : Ray) where
       go (x ∷ boxes) all k (inl is) = subst (λ j. IsOneOf j b.numbers) is.0 (all.0 is.1)
       go (x ∷ boxes) all k (inr met) = go boxes all.1 k met
 
--- ---- the parts of a tree that is halved
-bounded-next : (n : ℕ) (parts : List Part) → AreBounded (suc n) parts → Halves (AreBounded n) (take (length parts / 2) parts) (drop (length parts / 2) parts)
-unfolding AreBounded
-bounded-next n parts h = h
+-- ---- a tree's front and back
+tree-back : (xs ys : List Part) → AreTree (xs ++ ys) → AreTree ys
+tree-back [] ys t = t
+tree-back (One b ∷ xs) ys t = tree-back xs ys t.1
+tree-back (Many bounds n ∷ xs) ys t = tree-back xs ys t.2
 
--- all that a tree's middle part and its bounds are known to be
-pub record IsMiddle (front : List Part) (p : Part) (back : List Part) : Type 0 where
-  pub before : AreTree front
-  pub part : IsNearPart p
-  pub after : AreTree back
-  pub all : AllByRecursion (IsInBounds p.bounds) (front ++ p ∷ back)
-
-pub middle-is : (parts front rest back : List Part) (p : Part) → front ≡ take (length parts / 2) parts → rest ≡ drop (length parts / 2) parts → parts ≡ front ++ rest → rest ≡ p ∷ back → AreTree parts → IsMiddle front p back
-middle-is parts front rest back p f b whole first tree =
-    let near = subst (AllByRecursion IsNearPart) (whole ∙ ap (λ l. front ++ l) first) tree.near in
-    let later = all-back IsNearPart front (p ∷ back) near in
-    let halves : (n : ℕ) → Halves (AreBounded n) front (p ∷ back) = λ n. subst (λ l. Halves (AreBounded n) l (p ∷ back)) (sym f) (subst (Halves (AreBounded n) (take (length parts / 2) parts)) (sym b ∙ first) (bounded-next n parts (tree.bounded (suc n)))) in
-    let h = halves 0 in record {
-      before = record { bounded = λ n. let k = halves n in k.3; near = all-front IsNearPart front (p ∷ back) near };
-      part = later.0;
-      after = record { bounded = λ n. let k = halves n in k.4; near = later.1 };
-      all = all-both (IsInBounds p.bounds) front (p ∷ back) h.0 (h.1, h.2);
-    }
-
--- ---- a tree made of two, with a part between them
-pub tree-none : AreTree []
-unfolding AreBounded
-tree-none = record { bounded = go; near = tt }
-  where
-    go : (n : ℕ) → AreBounded n []
-    go zero = tt
-    go (suc n) = tt
-
-pub tree-of : (front back : List Part) (p : Part) → length front ≡ length (front ++ p ∷ back) / 2 → IsMiddle front p back → AreTree (front ++ p ∷ back)
-unfolding AreBounded
-tree-of front back p half m = record {
-  bounded = go;
-  near = all-both IsNearPart front (p ∷ back) m.before.near (m.part, m.after.near);
+bounds-more : (bounds : Extent) (n : ℕ) (xs ys : List Part) → AreBounds bounds n xs → AreBounds bounds n (xs ++ ys)
+bounds-more bounds n xs ys b = record {
+  some = b.some;
+  few = omega (arith, b.few, length-append xs ys);
+  each = subst (λ l. AllByRecursion (λ b. IsEnclosed bounds b.extent) (boxes_of l)) (sym (take-append-le (2 * (n - 1)) xs ys b.few)) b.each;
 }
-  where
-    go : (n : ℕ) → AreBounded n (front ++ p ∷ back)
-    go zero = tt
-    go (suc n) =
-        let rest = all-back (IsInBounds p.bounds) front (p ∷ back) m.all in
-        subst (λ l. Halves (AreBounded n) l (drop (length (front ++ p ∷ back) / 2) (front ++ p ∷ back))) (sym (take_at front (p ∷ back) (length (front ++ p ∷ back) / 2) half))
-        (subst (Halves (AreBounded n) front) (sym (drop_at front (p ∷ back) (length (front ++ p ∷ back) / 2) half))
-        (all-front (IsInBounds p.bounds) front (p ∷ back) m.all, rest.0, rest.1, m.before.bounded n, m.after.bounded n))
 
--- the boxes of two trees and one between them are those that were halved
-pub more-of : (boxes front back : List Boxed) (middle : Boxed) (bounds : Extent) (old once twice new : List Part) → IsPermutation boxes (front ++ middle ∷ back) → length front ≡ length boxes / 2
-    → All (λ (b : Boxed). IsEnclosed bounds b.extent) boxes → All (λ (b : Boxed). IsInReach b.extent) boxes → IsInReach bounds
-    → IsMore front old once → twice ≡ once ++ record { boxed = middle; bounds = bounds } ∷ [] → IsMore back twice new → IsMore boxes old new
-more-of boxes front back middle bounds old once twice new same half enclosed reach near f p b =
-    let part : Part = record { boxed = middle; bounds = bounds } in
-    let whole = f.more ++ part ∷ b.more in
-    let there : IsPermutation boxes (boxes_of whole) = subst (IsPermutation boxes) (sym (map-both (λ (p : Part). p.boxed) f.more (part ∷ b.more)))
-    (IsPermutation-trans boxes (front ++ middle ∷ back) (boxes_of f.more ++ middle ∷ boxes_of b.more) same (IsPermutation-append front (boxes_of f.more) (middle ∷ back) (middle ∷ boxes_of b.more) f.same (IsPermutation-cons middle back (boxes_of b.more) b.same))) in
-    let all : (P : Boxed → Type 0) → All P boxes → AllByRecursion (λ (p : Part). P p.boxed) whole = λ P h. all-boxes P whole (recursion_from_All P (boxes_of whole) (All-permutation P boxes (boxes_of whole) there h)) in
-    let middle_near = all-back (λ (p : Part). IsInReach p.boxed.extent) f.more (part ∷ b.more) (all (λ b. IsInReach b.extent) reach) in
+trees-both : (xs ys : List Part) → AreTree xs → AreTree ys → AreTree (xs ++ ys)
+trees-both [] ys a b = b
+trees-both (One x ∷ xs) ys a b = (a.0, trees-both xs ys a.1 b)
+trees-both (Many bounds n ∷ xs) ys a b = (a.0, bounds-more bounds n xs ys a.1, trees-both xs ys a.2 b)
+
+-- ---- past one part after another
+module _ (ray : Ray) (o : Offered) where
+  pub passed-none : (parts : List Part) → AreTree parts → HasPassed ray parts parts o o
+  passed-none parts t = record { passed = []; is = refl; offered = offered-none ray [] o tt; tree = t }
+
+  pub passed-missed : (b : Boxed) (below : List Part) → (IsMet b.extent ray → ⊥) → AreTree (One b ∷ below) → HasPassed ray (One b ∷ below) below o o
+  passed-missed b below missed t = record { passed = One b ∷ []; is = refl; offered = offered-none ray (b ∷ []) o (missed, tt); tree = t.1 }
+
+  pub passed-offered : (b : Boxed) (below : List Part) → AreTree (One b ∷ below) → HasPassed ray (One b ∷ below) below o (with_number o b.number)
+  passed-offered b below t = record { passed = One b ∷ []; is = refl; offered = offered-one ray b o; tree = t.1 }
+
+  pub passed-into : (bounds : Extent) (n : ℕ) (below : List Part) → AreTree (Many bounds n ∷ below) → HasPassed ray (Many bounds n ∷ below) below o o
+  passed-into bounds n below t = record { passed = Many bounds n ∷ []; is = refl; offered = offered-none ray [] o tt; tree = t.2 }
+
+  pub passed-over : (bounds : Extent) (n : ℕ) (below : List Part) → (IsMet bounds ray → ⊥) → AreTree (Many bounds n ∷ below) → HasPassed ray (Many bounds n ∷ below) (drop (2 * (n - 1)) below) o o
+  passed-over bounds n below missed t =
+      let k = 2 * (n - 1) in
+      let whole = take-append-drop k below in record {
+        passed = Many bounds n ∷ take k below;
+        is = ap (λ l. Many bounds n ∷ l) (sym whole);
+        offered = offered-none ray (boxes_of (take k below)) o (missed-all bounds ray missed (boxes_of (take k below)) t.1.each);
+        tree = tree-back (take k below) (drop k below) (subst AreTree (sym whole) t.2);
+      }
+
+pub passed-more : (ray : Ray) (parts rest below left : List Part) (a b c : Offered) → HasPassed ray parts rest a b → rest ≡ below → HasPassed ray below left b c → HasPassed ray parts left a c
+passed-more ray parts rest below left a b c f e g = record {
+  passed = f.passed ++ g.passed;
+  is = f.is ∙ ap (λ l. f.passed ++ l) (e ∙ g.is) ∙ sym (append_assoc f.passed g.passed left);
+  offered = subst (λ l. AreOffered ray l a c) (sym (boxes-both f.passed g.passed)) (offered-both ray (boxes_of f.passed) (boxes_of g.passed) a b c f.offered g.offered);
+  tree = g.tree;
+}
+
+pub passed-all : (ray : Ray) (parts rest : List Part) (a b : Offered) → rest ≡ [] → HasPassed ray parts rest a b → AreOffered ray (boxes_of parts) a b
+passed-all ray parts rest a b none f = subst (λ l. AreOffered ray (boxes_of l) a b) (sym (f.is ∙ ap (λ l. f.passed ++ l) none ∙ append-nil f.passed)) f.offered
+
+pub below-left : (ray : Ray) (parts rest : List Part) (a b : Offered) → HasPassed ray parts rest a b → AreBelow a.room parts → AreBelow b.room rest
+below-left ray parts rest a b f h =
+    let whole = subst (AllByRecursion (λ (x : Boxed). x.number < a.room)) (ap boxes_of f.is ∙ boxes-both f.passed rest) h in
+    subst (λ r. AreBelow r rest) (sym f.offered.offered.room) (all-back (λ (x : Boxed). x.number < a.room) (boxes_of f.passed) (boxes_of rest) whole)
+
+-- ---- a tree made of two trees, with bounds before them
+pub more-of : (boxes front back : List Boxed) (bounds : Extent) (old once twice new : List Part) → IsPermutation boxes (front ++ back) → 0 < length front → 0 < length back
+    → All (λ (b : Boxed). IsEnclosed bounds b.extent) boxes → IsInReach bounds
+    → once ≡ old ++ Many bounds (length boxes) ∷ [] → IsMore front once twice → IsMore back twice new → IsMore boxes old new
+more-of boxes front back bounds old once twice new same some others enclosed near p f b =
+    let below = f.more ++ b.more in
+    let there : IsPermutation boxes (boxes_of below) = subst (IsPermutation boxes) (sym (boxes-both f.more b.more))
+    (IsPermutation-trans boxes (front ++ back) (boxes_of f.more ++ boxes_of b.more) same (IsPermutation-append front (boxes_of f.more) back (boxes_of b.more) f.same b.same)) in
+    let count : length below ≡ 2 * (length boxes - 1) = omega (arith, length-append f.more b.more, f.count, b.count, length_permutation boxes (front ++ back) same, length-append front back, some, others) in
+    let longer : 0 < length boxes = omega (arith, length_permutation boxes (front ++ back) same, length-append front back, some) in
     record {
-      more = whole;
-      is = b.is ∙ ap (λ l. l ++ b.more) (p ∙ ap (λ l. l ++ part ∷ []) f.is) ∙ joined old f.more part b.more;
+      more = Many bounds (length boxes) ∷ below;
+      is = b.is ∙ ap (λ l. l ++ b.more) (f.is ∙ ap (λ l. l ++ f.more) p) ∙ joined old f.more b.more;
       same = there;
-      tree = tree-of f.more b.more part (omega (arith, half, counted f.more, length_permutation front (boxes_of f.more) f.same, counted whole, length_permutation boxes (boxes_of whole) there)) (record {
-        before = f.tree;
-        part = record { boxed = middle_near.0; bounds = near };
-        after = b.tree;
-        all = all (λ b. IsEnclosed bounds b.extent) enclosed;
-      });
+      tree = (
+        near,
+        record {
+          some = longer;
+          few = omega (arith, count);
+          each = subst (λ l. AllByRecursion (λ b. IsEnclosed bounds b.extent) (boxes_of l)) (sym (take_all (2 * (length boxes - 1)) below (omega (arith, count))))
+              (recursion_from_All (λ b. IsEnclosed bounds b.extent) (boxes_of below) (All-permutation (λ b. IsEnclosed bounds b.extent) boxes (boxes_of below) there enclosed));
+        },
+        trees-both f.more b.more f.tree b.tree,
+      );
+      count = omega (arith, count, longer);
     }
   where
-    counted : (parts : List Part) → length (boxes_of parts) ≡ length parts
-    counted [] = refl
-    counted (p ∷ parts) = omega (arith, counted parts)
-
-    joined : (xs ys : List Part) (p : Part) (zs : List Part) → ((xs ++ ys) ++ p ∷ []) ++ zs ≡ xs ++ (ys ++ p ∷ zs)
-    joined [] [] p zs = refl
-    joined [] (y ∷ ys) p zs = ap (λ l. y ∷ l) (joined [] ys p zs)
-    joined (x ∷ xs) ys p zs = ap (λ l. x ∷ l) (joined xs ys p zs)
+    joined : (old xs ys : List Part) → ((old ++ Many bounds (length boxes) ∷ []) ++ xs) ++ ys ≡ old ++ Many bounds (length boxes) ∷ (xs ++ ys)
+    joined old xs ys = append_assoc (old ++ Many bounds (length boxes) ∷ []) xs ys ∙ append_assoc old (Many bounds (length boxes) ∷ []) (xs ++ ys)

@@ -1,5 +1,5 @@
 -- Private to this crate: a tree of boxes, as a list of parts.
-use Rattle.std.specs.Prelude.{◌≡◌, ℕ, zero, suc, ◌/◌, ◌≤ℤ◌, ℤ, List, [], ◌∷◌, ◌++◌, length, map, take, drop}
+use Rattle.std.specs.Prelude.{◌≡◌, ℕ, ◌+◌, ◌-◌, ◌*◌, ◌<◌, ◌≤◌, ◌≤ℤ◌, List, [], ◌∷◌, ◌++◌, length, map, take}
 use Rattle.std.specs.Int.{int_min, int_max}
 use Rattle.std.specs.List.{AllByRecursion}
 use Rattle.std.specs.List.Sorted.{IsPermutation}
@@ -11,6 +11,7 @@ use Rattle.gx_offers.specs.Offers.{IsOneOf, Offered, IsOffered}
 use Rattle.gx_boxes.specs.Boxes.{reach, IsMet}
 use Rattle.gx_boxes.specs.declared.boxed.Boxed.{Boxed}
 use Rattle.gx_boxes.specs.declared.part.Part.{Part}
+use Rattle.gx_boxes.specs.declared.part.Part.TheVariants.{One, Many}
 
 -- numbers that fit
 pub record IsInReach (e : Extent) : Type 0 where
@@ -28,32 +29,27 @@ pub record IsEnclosed (outer inner : Extent) : Type 0 where
   pub low : IsBelow outer.low inner.low
   pub high : IsBelow inner.high outer.high
 
--- the boxes of the parts
+-- the boxes among the parts
 abbrev pub boxes_of : List Part → List Boxed
-boxes_of parts = map (λ p. p.boxed) parts
+boxes_of [] = []
+boxes_of (One b ∷ parts) = b ∷ boxes_of parts
+boxes_of (Many bounds n ∷ parts) = boxes_of parts
 
--- the bounds have all of the part's box
-abbrev pub IsInBounds : Extent → Part → Type 0
-IsInBounds bounds p = IsEnclosed bounds p.boxed.extent
+-- Bounds of n boxes have the boxes of the next n - 1 pairs of parts, which are a tree's of n boxes without its own bounds.
+pub record AreBounds (bounds : Extent) (n : ℕ) (parts : List Part) : Type 0 where
+  pub some : 0 < n
+  pub few : 2 * (n - 1) ≤ length parts
+  pub each : AllByRecursion (λ b. IsEnclosed bounds b.extent) (boxes_of (take (2 * (n - 1)) parts))
 
--- The bounds of the part after the front, if there is one, have it, the front and all after it; and so on in front and after.
-abbrev pub Halves : (List Part → Type 0) → List Part → List Part → Type 0
-Halves Deeper front [] = Unit {0}
-Halves Deeper front (p ∷ back) = AllByRecursion (IsInBounds p.bounds) front × IsInBounds p.bounds p × AllByRecursion (IsInBounds p.bounds) back × Deeper front × Deeper back
+-- each box and all bounds are within reach, and the bounds have what they bound
+abbrev pub AreTree : List Part → Type 0
+AreTree [] = Unit {0}
+AreTree (One b ∷ parts) = IsInReach b.extent × AreTree parts
+AreTree (Many bounds n ∷ parts) = IsInReach bounds × AreBounds bounds n parts × AreTree parts
 
-unfoldable pub AreBounded : ℕ → List Part → Type 0
-AreBounded zero parts = Unit {0}
-AreBounded (suc n) parts = Halves (AreBounded n) (take (length parts / 2) parts) (drop (length parts / 2) parts)
-
--- bounds and boxes are within reach
-pub record IsNearPart (p : Part) : Type 0 where
-  pub boxed : IsInReach p.boxed.extent
-  pub bounds : IsInReach p.bounds
-
--- a tree: however often it is halved, the bounds of the part in the middle have all
-pub record AreTree (parts : List Part) : Type 0 where
-  pub bounded : (n : ℕ) → AreBounded n parts
-  pub near : AllByRecursion IsNearPart parts
+-- all numbers of boxes are below a bound
+abbrev pub AreBelow : ℕ → List Part → Type 0
+AreBelow room parts = AllByRecursion (λ b. b.number < room) (boxes_of parts)
 
 -- after what was there a tree of the boxes is there
 pub record IsMore (boxes : List Boxed) (old new : List Part) : Type 0 where
@@ -61,11 +57,19 @@ pub record IsMore (boxes : List Boxed) (old new : List Part) : Type 0 where
   pub is : new ≡ old ++ more
   pub same : IsPermutation boxes (boxes_of more)
   pub tree : AreTree more
+  pub count : length more + 1 ≡ 2 * length boxes
 
 -- The numbers of some boxes were offered, and each that the ray meets is there.
 pub record AreOffered (ray : Ray) (boxes : List Boxed) (old new : Offered) : Type 0 where
   pub offered : IsOffered (λ k. ⊥) (map (λ b. b.number) boxes) old new
   pub whole : AllByRecursion (λ b. IsMet b.extent ray → IsOneOf b.number new.numbers) boxes
+
+-- Of the parts the rest is left, and what the ray meets among those before it was offered.
+pub record HasPassed (ray : Ray) (parts rest : List Part) (old new : Offered) : Type 0 where
+  pub passed : List Part
+  pub is : parts ≡ passed ++ rest
+  pub offered : AreOffered ray (boxes_of passed) old new
+  pub tree : AreTree rest
 
 -- the lesser and the greater coordinates of two
 pub record AreLeast (a b least : V3) : Type 0 where

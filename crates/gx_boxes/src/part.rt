@@ -1,9 +1,9 @@
 use crate::Boxed;
 use gx_num::Extent;
 
-/// A box, and bounds of all boxes of the part of a tree in whose middle it is.
+/// A box, or bounds of the boxes that come next in a tree, so many.
 #[derive(Clone, Copy)]
-pub struct Part {
-    pub boxed: Boxed,
-    pub bounds: Extent,
+pub enum Part {
+    One(Boxed),
+    Many { bounds: Extent, boxes: usize },
 }

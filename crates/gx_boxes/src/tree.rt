@@ -1,9 +1,9 @@
-ghost use Rattle.std.specs.Prelude.{◌≡◌, ◌<◌, ◌/◌, ◌++◌, ◌∷◌, [], length, map, IfOk};
+ghost use Rattle.std.specs.Prelude.{◌<◌, ◌++◌, ◌∷◌, length, map, IfOk};
 ghost use Rattle.std.specs.List.{All, AllByRecursion};
 ghost use Rattle.std.specs.List.Sorted.{IsPermutation};
 ghost use Rattle.gx_offers.specs.Offers.{IsOffered};
-ghost use Rattle.gx_boxes.specs.Boxes.{IsProper, IsNear, IsMet, IsMetAmong};
-ghost use Rattle.gx_boxes.specs.Tree.{AreTree, AreOffered, IsMore, IsInReach, boxes_of};
+ghost use Rattle.gx_boxes.specs.Boxes.{IsProper, IsNear, IsMetAmong};
+ghost use Rattle.gx_boxes.specs.Tree.{AreTree, AreBelow, AreOffered, HasPassed, IsMore, IsInReach, boxes_of};
 
 use crate::bounds::bounds_of;
 use crate::part::Part;
@@ -13,7 +13,7 @@ use gx_offers::Offers;
 use std::alloc::Global;
 use std::marker::Model;
 
-/// Boxes with numbers, halved again and again so that a ray passes by many of them at once.
+/// Boxes with numbers, parted again and again so that a ray passes by many of them at once.
 #[derive(Drop)]
 pub struct BoxTree {
     parts: Vec<Part>,
@@ -39,7 +39,9 @@ impl BoxTree {
     {
         let mut boxes = boxes;
         let mut parts = Vec::with_capacity(alloc, boxes.len())?;
-        push_tree(&mut boxes, &mut parts)?;
+        if !boxes.is_empty() {
+            push_tree(&mut boxes, &mut parts)?;
+        }
         Ok(BoxTree { parts })
     }
 
@@ -56,61 +58,90 @@ impl BoxTree {
 fn offer_parts(parts: &[Part], ray: &Ray, offers: &mut Offers)
     requires ray { IsNear ray.now }
     requires tree { AreTree parts.now }
-    requires room { AllByRecursion (λ p. p.boxed.number < offers.old.room) parts.now }
+    requires room { AreBelow offers.old.room parts.now }
     ensures { AreOffered ray.now (boxes_of parts.now) offers.old offers.new }
 {
-    let (front, rest) = parts.split_at(parts.len() / 2);
-    let Some((middle, back)) = rest.split_first() else {
-        return;
-    };
-    if misses(&middle.bounds, ray) {
-        return;
+    let mut rest = parts;
+    while let Some((part, below)) = rest.split_first() {
+        rest = pass(part, below, ray, offers);
     }
-    offer_parts(front, ray, offers);
-    middle.offer(parts.len() == 1, ray, offers);
-    offer_parts(back, ray, offers);
 }
 
-impl Part {
-    // Bounds of one box were the box itself.
-    fn offer(&self, alone: bool, ray: &Ray, offers: &mut Offers)
-        requires ray { IsNear ray.now }
-        requires reach { IsInReach self.now.boxed.extent }
-        requires room { self.now.boxed.number < offers.old.room }
-        ensures { AreOffered ray.now (self.now.boxed ∷ []) offers.old offers.new }
-    {
-        if alone || !misses(&self.boxed.extent, ray) {
-            offers.offer(self.boxed.number);
+// Past a part; where the ray misses bounds, past all that they bound.
+fn pass<'a>(part: &Part, below: &'a [Part], ray: &Ray, offers: &mut Offers) -> &'a [Part]
+    requires ray { IsNear ray.now }
+    requires tree { AreTree (part.now ∷ below.now) }
+    requires room { AreBelow offers.old.room (part.now ∷ below.now) }
+    ensures passed { HasPassed ray.now (part.now ∷ below.now) result.now offers.old offers.new }
+    ensures less { length result.now < length (part.now ∷ below.now) }
+{
+    match part {
+        Part::One(boxed) => {
+            if !misses(&boxed.extent, ray) {
+                offers.offer(boxed.number);
+            }
+            below
+        }
+        Part::Many { bounds, boxes } => {
+            if misses(bounds, ray) {
+                &below[2 * (*boxes - 1)..]
+            } else {
+                below
+            }
         }
     }
 }
 
-// A tree of the boxes comes after what is there.
+// A tree of the boxes, of which there is one, comes after what is there.
 fn push_tree(boxes: &mut [Boxed], parts: &mut Vec<Part>) -> Result<(), NoMemory>
-    requires { All (λ b. IsInReach b.extent) boxes.old }
+    requires some { 0 < length boxes.old }
+    requires reach { All (λ b. IsInReach b.extent) boxes.old }
     ensures { IfOk result (λ _. IsMore boxes.old parts.old.items parts.new.items) }
 {
-    if boxes.is_empty() {
+    if boxes.len() == 1 {
+        parts.push(Part::One(boxes[0]))?;
         return Ok(());
     }
     let bounds = bounds_of(boxes);
-    let (front, middle, back) = halved(boxes, widest(&bounds));
-    push_tree(front, parts)?;
-    parts.push(Part {
-        boxed: *middle,
+    parts.push(Part::Many {
         bounds,
+        boxes: boxes.len(),
     })?;
+    let (front, back) = parted(boxes, widest(&bounds));
+    push_tree(front, parts)?;
     push_tree(back, parts)
 }
 
-// The middle one of them along an axis, those before it and those after it.
-fn halved(boxes: &mut [Boxed], axis: u8) -> (&mut [Boxed], &mut Boxed, &mut [Boxed])
-    requires { 0 < length boxes.old }
-    ensures same { IsPermutation boxes.old (result.0.now ++ result.1.now ∷ result.2.now) }
-    ensures half { length result.0.now ≡ length boxes.old / 2 }
+// The boxes in two, by where their middles are along an axis.
+fn parted(boxes: &mut [Boxed], axis: u8) -> (&mut [Boxed], &mut [Boxed])
+    requires { 1 < length boxes.old }
+    ensures same { IsPermutation boxes.old (result.0.now ++ result.1.now) }
+    ensures front { 0 < length result.0.now }
+    ensures back { 0 < length result.1.now }
 {
-    let half = boxes.len() / 2;
-    boxes.select_nth_unstable_by_key(half, |boxed| centre(&boxed.extent, axis))
+    boxes.sort_unstable_by_key(|boxed| centre(&boxed.extent, axis));
+    let gap = widest_gap(boxes, axis);
+    boxes.split_at_mut(gap)
+}
+
+// In the middle third of their order, where two that follow one another have their middles farthest apart.
+fn widest_gap(boxes: &[Boxed], axis: u8) -> usize
+    requires { 1 < length boxes.now }
+    ensures some { 0 < result }
+    ensures less { result < length boxes.now }
+{
+    let third = boxes.len() / 3;
+    let mut found = boxes.len() / 2;
+    let mut widest = 0;
+    for i in third + 1..boxes.len() - third {
+        let before = centre(&boxes[i - 1].extent, axis);
+        let gap = centre(&boxes[i].extent, axis).wrapping_sub(before);
+        if gap > widest {
+            found = i;
+            widest = gap;
+        }
+    }
+    found
 }
 
 // Twice where the middle is, along an axis.

@@ -1,4 +1,4 @@
-use Rattle.std.proofs.Common.{get_or, arith, subst, take, take_all}
+use Rattle.std.proofs.Common.{arith, subst, take, take_all}
 use Rattle.std.specs.List.{All}
 use Rattle.std.proofs.lemmas.List.Elements.{All-more, All-weaker}
 use Rattle.gx_boxes.specs.declared.boxed.Boxed.{Boxed}

@@ -1,4 +1,4 @@
-use Rattle.std.proofs.Common.{length, take}
+use Rattle.std.proofs.Common.{take}
 use Rattle.std.specs.List.{All}
 use Rattle.gx_boxes.specs.Tree.{IsEnclosed, IsInReach}
 use Rattle.gx_boxes.proofs.bounds.bounds_of.Given as goal
